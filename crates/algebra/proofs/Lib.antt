@@ -1,0 +1,7 @@
+pub mod Laws
+pub mod Totals
+pub mod Codes
+pub mod Guarded
+pub mod BitLaws
+pub mod Everywhere
+pub mod ModularLaws

@@ -1,0 +1,6 @@
+pub mod Commutative
+pub mod Rings
+pub mod Sums
+pub mod Forms
+pub mod Bits
+pub mod Modular

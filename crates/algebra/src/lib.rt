@@ -1,0 +1,1 @@
+// Mathematics with no code to run: see specs/ and proofs/.
