@@ -5,3 +5,4 @@ pub mod Guarded
 pub mod BitLaws
 pub mod Everywhere
 pub mod ModularLaws
+pub mod SumLaws

@@ -11,7 +11,8 @@ const TWO_A_BYTE: u16 = 16;
 
 // How many bytes a run of n codes takes, in a ring of q codes.
 pub fn packed_len(q: u16, n: usize) -> usize
-    ensures { λ r. ⌜ r ≡ packedLength q n ⌝ }
+    ensures value { λ r. ⌜ r ≡ packedLength q n ⌝ }
+    ensures bound { λ r. ⌜ r ≤ n ⌝ }
 {
     if q > TWO_A_BYTE { n } else { n / 2 + n % 2 }
 }

@@ -4,7 +4,7 @@ use mathlib.Core.Bool.{cond}
 use mathlib.Core.List.{List}
 use Prim.Native.Nat.{ℕ, zero, suc, _+_, _-_, _*_, _<_, _≤_}
 use native.Mathlib.Omega.{arith}
-use native.Mathlib.Nat.{mul-le-mul, add-mul, suc-mul, one-mul, zero-add, zero-mul as zero-mul-nat}
+use native.Mathlib.Nat.{mul-le-mul, add-mul, suc-mul, one-mul, mul-comm, zero-add, zero-mul as zero-mul-nat}
 use lib.Dec.{leb}
 use lib.ListN.{length, getD}
 use borrow.Author.Tests.{le-leb, lt-leb}
@@ -103,3 +103,24 @@ area-next n i at m e = rw (pairs-more n i) (ap (λ (t : ℕ). t + (n - i) * m) e
 pub area-none : (n m : ℕ) → 0 ≡ pairsBefore n 0 * m
 unfolding pairsBefore
 area-none n m = sym (zero-mul-nat m)
+
+triangle : (d : ℕ) → (d + 1) * (d + 1 + 1) ≡ d * (d + 1) + 2 * (d + 1)
+triangle d = let e : d + 1 + 1 ≡ d + 2 = omega arith in mul-comm (d + 1) (d + 1 + 1) ∙ ap (λ (t : ℕ). t * (d + 1)) e ∙ add-mul d 2 (d + 1)
+
+triangles : (n k : ℕ) → k ≤ n → 2 * pairsBefore n k + (n - k) * (n - k + 1) ≡ n * (n + 1)
+unfolding pairsBefore
+triangles n zero h = let e : n - 0 ≡ n = omega arith in rw e (zero-add (n * (n + 1)))
+triangles n (suc k) h =
+    let ih = triangles n k (omega arith) in
+    let e : n - k ≡ n - suc k + 1 = omega arith in
+    let t = triangle (n - suc k) in
+    let s : (n - k) * (n - k + 1) ≡ (n - suc k + 1) * (n - suc k + 1 + 1) = ap (λ (d : ℕ). d * (d + 1)) e in
+    omega arith
+
+-- n (n + 1) / 2 pairs
+pub pairs-closed : (n : ℕ) → n * (n + 1) ≡ 2 * pairsBefore n n
+pairs-closed n =
+    let e : n - n ≡ 0 = omega arith in
+    let z : (n - n) * (n - n + 1) ≡ 0 = ap (λ (d : ℕ). d * (d + 1)) e in
+    let t = triangles n n (omega arith) in
+    omega arith

@@ -17,7 +17,7 @@ copy-from-slice-requires g c κs = let e = wide-length (c .size-q .result) (leng
 pub returns-then-q-gt-TWO-A-BYTE : need.returns-then-q-gt-TWO-A-BYTE
 returns-then-q-gt-TWO-A-BYTE g c =
     let q = g .R·Ring .ring (c .args .ring .now) .q in
-    (sym (eq-eqb _ _ (c .if-run-packed-len .left ∙ c .packed-len .ensures ∙ ap (λ (p : ℕ). packedLength p (length (c .args .codes .now))) (c .size-q .ensures))), c .copy-from-slice .ensures .after ∙ sym (wide-packed q (c .args .codes .now) (omega arith)))
+    (sym (eq-eqb _ _ (c .if-run-packed-len .left ∙ c .packed-len .ensures .value ∙ ap (λ (p : ℕ). packedLength p (length (c .args .codes .now))) (c .size-q .ensures))), c .copy-from-slice .ensures .after ∙ sym (wide-packed q (c .args .codes .now) (omega arith)))
 
 pub index-codes-i-in-loop-i : need.index-codes-i-in-loop-i
 index-codes-i-in-loop-i g c = let e = narrow-length (c .size-q .result) (length (c .args .codes .now)) (omega arith) in omega arith
@@ -38,4 +38,4 @@ returns g c =
     let codes = c .args .codes .now in
     let e = narrow-length (c .size-q .result) (length codes) (omega arith) in
     let l : length (c .loop-i .run) ≡ length (inPairs codes) = let n = length-pairs codes in omega arith in
-    (sym (eq-eqb _ _ (c .if-run-packed-len .left ∙ c .packed-len .ensures ∙ ap (λ (p : ℕ). packedLength p (length codes)) (c .size-q .ensures))), ext-getD 0 (c .loop-i .run) (inPairs codes) l (λ k h. c .loop-i .inv k (omega arith)) ∙ sym (narrow-packed q codes (omega arith)))
+    (sym (eq-eqb _ _ (c .if-run-packed-len .left ∙ c .packed-len .ensures .value ∙ ap (λ (p : ℕ). packedLength p (length codes)) (c .size-q .ensures))), ext-getD 0 (c .loop-i .run) (inPairs codes) l (λ k h. c .loop-i .inv k (omega arith)) ∙ sym (narrow-packed q codes (omega arith)))

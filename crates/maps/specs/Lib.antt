@@ -1,0 +1,5 @@
+pub mod Shapes
+pub mod Refusals
+pub mod Heads
+pub mod Sets
+pub mod Verdicts
