@@ -1,0 +1,18 @@
+-- Cases worked by hand, in one statement.
+use mathlib.Core.Path.{_≡_}
+use mathlib.Core.Bool.{true}
+use mathlib.Core.List.{List, [], _∷_}
+use Prim.Native.Nat.{ℕ}
+use Rattle.std.specs.declared.result.Result.the-variants.{Ok}
+use Rattle.algebra.specs.Modular.{modular}
+use Rattle.maps.specs.Verdicts.{Verdict}
+
+-- a public key modulo 31 of the shape 1, 1, 1
+abbrev pub publicKey31 : List ℕ
+publicKey31 = 30 ∷ 1 ∷ 1 ∷ 1 ∷ 1 ∷ 0 ∷ 7 ∷ 0 ∷ 16 ∷ 1 ∷ 12 ∷ 0 ∷ 24 ∷ 4 ∷ 1 ∷ 9 ∷ []
+
+pub record WorkedCases : Type 0 where
+  -- modulo 31, 5 * 25 = 1
+  pub product31 : modular 31 .mul 5 25 ≡ 1
+  -- that key says yes to the signature 12 24 2 for the digest 10 4
+  pub verdict31 : Verdict (modular 31) publicKey31 (10 ∷ 4 ∷ []) (12 ∷ 24 ∷ 2 ∷ []) (Ok true)
