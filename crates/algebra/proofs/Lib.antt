@@ -5,4 +5,8 @@ pub mod Guarded
 pub mod BitLaws
 pub mod Everywhere
 pub mod ModularLaws
+pub mod Pairs
+pub mod ExtensionLaws
+pub mod Rootless
+pub mod TowerLaws
 pub mod SumLaws

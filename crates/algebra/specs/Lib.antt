@@ -4,3 +4,5 @@ pub mod Sums
 pub mod Forms
 pub mod Bits
 pub mod Modular
+pub mod Extension
+pub mod Tower

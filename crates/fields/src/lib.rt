@@ -1,5 +1,6 @@
 // Rings and fields of at most 256 codes, their suppliers, and codes in bytes.
 mod bits;
+mod extension;
 mod modular;
 mod packing;
 mod rings;
@@ -7,6 +8,19 @@ mod rings;
 pub use bits::Gf2;
 pub use bits::Gf2Field;
 pub use bits::Gf2Ring;
+pub use extension::Extensible;
+pub use extension::ExtensionField;
+pub use extension::ExtensionRing;
+pub use extension::Gf2Extensible;
+pub use extension::Gf4;
+pub use extension::Gf4Extensible;
+pub use extension::Gf16;
+pub use extension::Gf16Extensible;
+pub use extension::Gf256;
+pub use extension::QuadraticExtension;
+pub use extension::gf4;
+pub use extension::gf16;
+pub use extension::gf256;
 pub use modular::Mod31;
 pub use modular::Mod31Field;
 pub use modular::Mod31Ring;

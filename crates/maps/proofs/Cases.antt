@@ -9,7 +9,8 @@ use borrow.Author.Tests.{eqb-true}
 use Rattle.algebra.specs.Forms.{formAt}
 use Rattle.algebra.specs.Modular.{modular}
 use Rattle.algebra.proofs.Everywhere.{everywhere}
-use Rattle.fields.specs.Packing.{packedLength, codeAt, firstForeign}
+use Rattle.algebra.proofs.TowerLaws.{tower-cases}
+use Rattle.fields.specs.Packing.{packedLength, codeAt, codesFrom, firstForeign}
 use Rattle.matrices.specs.QuadraticSystems.{pairsBefore, pairAt, coefficient}
 use Rattle.maps.specs.Shapes.{publicCodes}
 use Rattle.maps.specs.Verdicts.{Satisfies, Valid}
@@ -29,5 +30,5 @@ unfolding codeAt pairsBefore pairAt coefficient
 valid31 e h = eqb-true _ _ (everywhere equal31 2 refl e h)
 
 pub worked : WorkedCases
-unfolding packedLength codeAt firstForeign pairsBefore publicCodes
-worked = record { product31 = refl; verdict31 = (refl, ((λ _. valid31), (λ _. refl))) }
+unfolding packedLength codeAt codesFrom firstForeign pairsBefore publicCodes
+worked = record { product31 = refl; tower = tower-cases; half-zero = refl; half-one = refl; verdict31 = (refl, ((λ _. valid31), (λ _. refl))) }

@@ -5,6 +5,8 @@ use mathlib.Core.List.{List, [], _∷_}
 use Prim.Native.Nat.{ℕ}
 use Rattle.std.specs.declared.result.Result.the-variants.{Ok}
 use Rattle.algebra.specs.Modular.{modular}
+use Rattle.algebra.specs.Tower.{TowerCases}
+use Rattle.fields.specs.Packing.{codesFrom}
 use Rattle.maps.specs.Verdicts.{Verdict}
 
 -- a public key modulo 31 of the shape 1, 1, 1
@@ -14,5 +16,10 @@ publicKey31 = 30 ∷ 1 ∷ 1 ∷ 1 ∷ 1 ∷ 0 ∷ 7 ∷ 0 ∷ 16 ∷ 1 ∷ 12 �
 pub record WorkedCases : Type 0 where
   -- modulo 31, 5 * 25 = 1
   pub product31 : modular 31 .mul 5 25 ≡ 1
+  -- products and inverses in GF(4), GF(16) and GF(256)
+  pub tower : TowerCases
+  -- GF(16), three codes: the half byte over is ignored
+  pub half-zero : codesFrom 16 (159 ∷ 10 ∷ []) 0 3 ≡ 15 ∷ 9 ∷ 10 ∷ []
+  pub half-one : codesFrom 16 (159 ∷ 26 ∷ []) 0 3 ≡ 15 ∷ 9 ∷ 10 ∷ []
   -- that key says yes to the signature 12 24 2 for the digest 10 4
   pub verdict31 : Verdict (modular 31) publicKey31 (10 ∷ 4 ∷ []) (12 ∷ 24 ∷ 2 ∷ []) (Ok true)
