@@ -17,9 +17,6 @@ two P z o Prim.Native.Nat.zero h = z
 two P z o (Prim.Native.Nat.suc Prim.Native.Nat.zero) h = o
 two P z o (Prim.Native.Nat.suc (Prim.Native.Nat.suc a)) h = absurd (omega arith)
 
-xor : ℕ → ℕ → ℕ
-xor a b = bitXor a b
-
 bit-laws : CodeLaws 2 (λ a b. bitXor a b) (λ a. a) (λ a b. bitAnd a b)
 bit-laws = record {
   q-low = omega arith;

@@ -1,17 +1,14 @@
 -- The codes of a ring as a type of their own, a commutative ring with no condition on its laws. Assumes nothing.
-use mathlib.Core.Path.{_≡_, refl, sym, ap, ap₂, _∙_}
+use mathlib.Core.Path.{_≡_, refl, ap, _∙_}
 use mathlib.Core.HLevel.{Σ-prop-path}
-use mathlib.Core.Logic.{_⊎_, inl, inr}
 use Prim.Native.Nat.{ℕ, zero, suc, _<_, _≤_}
 use native.Mathlib.Bridge.{le-prop}
 use native.Mathlib.Omega.{arith}
 use native.Mathlib.Decide.{decLt}
-use Rattle.algebra.specs.Commutative.{Commutative, total, value}
+use Rattle.algebra.specs.Commutative.{Commutative, total}
 use Rattle.algebra.specs.Rings.{Ring, RingLaws}
 use Rattle.algebra.specs.Sums.{sum}
-use Rattle.algebra.specs.Forms.{formAt}
 use Rattle.algebra.proofs.Laws.{mul-nil}
-use Rattle.algebra.proofs.Totals.{value-pairs}
 
 abbrev pub Code : Ring → Type 0
 Code R = (n : ℕ) × (n < R .q)
@@ -66,3 +63,17 @@ module _ (R : Ring) (L : RingLaws R) where
   unfolding total
   sum-total zero f = refl
   sum-total (suc n) f = ap (λ s. R .add s (f n .0)) (sum-total n f)
+
+  pub code-known : (a : ℕ) (h : a < R .q) → code a ≡ (a, h)
+  unfolding code
+  code-known a h = elim (decLt a (R .q)) as (λ d. _≡_ {A = Code R} (elim d [ yes k ↦ (a, k) | no k ↦ (0, nil-code) ]) (a, h)) [
+    | yes k ↦ same R _ _ refl
+    | no k ↦ absurd (k h)
+  ]
+
+  pub code-foreign : (a : ℕ) → R .q ≤ a → code a ≡ (0, nil-code)
+  unfolding code
+  code-foreign a h = elim (decLt a (R .q)) as (λ d. _≡_ {A = Code R} (elim d [ yes k ↦ (a, k) | no k ↦ (0, nil-code) ]) (0, nil-code)) [
+    | yes k ↦ absurd (omega arith)
+    | no k ↦ refl
+  ]

@@ -10,3 +10,11 @@ pub mod ExtensionLaws
 pub mod Rootless
 pub mod TowerLaws
 pub mod SumLaws
+pub mod Places
+pub mod Elimination
+pub mod Systems
+pub mod Bridge
+pub mod Folds
+pub mod PublicMap
+pub mod Blocks
+pub mod Masks

@@ -6,3 +6,6 @@ pub mod Bits
 pub mod Modular
 pub mod Extension
 pub mod Tower
+pub mod Systems
+pub mod Matrices
+pub mod Masks

@@ -143,6 +143,3 @@ pub fn gf256() -> Gf256
 {
     QuadraticExtension { base: gf16() }
 }
-
-#[cfg(test)]
-mod tests;

@@ -6,7 +6,7 @@ use super::rings::Field;
 use super::rings::Ring;
 
 // The sum of two codes modulo q.
-pub(crate) fn sum_modulo(q: u8, a: u8, b: u8) -> u8
+fn sum_modulo(q: u8, a: u8, b: u8) -> u8
     requires { ⌜ 2 ≤ q ⌝ }
     ensures { λ r. ⌜ r ≡ modular q .add a b ⌝ }
 {
@@ -18,7 +18,7 @@ pub(crate) fn sum_modulo(q: u8, a: u8, b: u8) -> u8
 }
 
 // The negative of a code modulo q.
-pub(crate) fn negative_modulo(q: u8, a: u8) -> u8
+fn negative_modulo(q: u8, a: u8) -> u8
     requires { ⌜ 2 ≤ q ⌝ }
     ensures { λ r. ⌜ r ≡ modular q .neg a ⌝ }
 {
@@ -26,7 +26,7 @@ pub(crate) fn negative_modulo(q: u8, a: u8) -> u8
 }
 
 // The product of two codes modulo q.
-pub(crate) fn product_modulo(q: u8, a: u8, b: u8) -> u8
+fn product_modulo(q: u8, a: u8, b: u8) -> u8
     requires { ⌜ 2 ≤ q ⌝ }
     ensures { λ r. ⌜ r ≡ modular q .mul a b ⌝ }
 {

@@ -12,7 +12,7 @@ use Rattle.algebra.proofs.Everywhere.{everywhere}
 use Rattle.algebra.proofs.TowerLaws.{tower-cases}
 use Rattle.fields.specs.Packing.{packedLength, codeAt, codesFrom, firstForeign}
 use Rattle.matrices.specs.QuadraticSystems.{pairsBefore, pairAt, coefficient}
-use Rattle.maps.specs.Shapes.{publicCodes}
+use Rattle.maps.specs.Shapes.{layerCodes, secretCodes, publicCodes}
 use Rattle.maps.specs.Verdicts.{Satisfies, Valid}
 use Rattle.maps.specs.Worked.{publicKey31, WorkedCases}
 
@@ -30,5 +30,15 @@ unfolding codeAt pairsBefore pairAt coefficient
 valid31 e h = eqb-true _ _ (everywhere equal31 2 refl e h)
 
 pub worked : WorkedCases
-unfolding packedLength codeAt codesFrom firstForeign pairsBefore publicCodes
-worked = record { product31 = refl; tower = tower-cases; half-zero = refl; half-one = refl; verdict31 = (refl, ((λ _. valid31), (λ _. refl))) }
+unfolding packedLength codeAt codesFrom firstForeign pairsBefore layerCodes secretCodes publicCodes
+worked = record {
+  product31 = refl;
+  tower = tower-cases;
+  half-zero = refl;
+  half-one = refl;
+  verdict31 = (refl, ((λ _. valid31), (λ _. refl)));
+  ia = record { secret-is = refl; public-is = refl; signature-is = refl; digest-is = refl };
+  iiic = record { secret-is = refl; public-is = refl; signature-is = refl; digest-is = refl };
+  vc = record { secret-is = refl; public-is = refl; signature-is = refl; digest-is = refl };
+  k31 = record { secret-is = refl; public-is = refl; signature-is = refl; digest-is = refl };
+}

@@ -57,3 +57,9 @@ pub first-next : (ts : List (Option Refusal)) (i : ℕ) → i < length ts → ge
 first-next ts i h s =
     ap (λ (us : List (Option Refusal)). first (map (mapped told) us)) (drop-more ts i None h)
     ∙ ap (λ (o : Option Refusal). first (mapped told o ∷ map (mapped told) (drop (i + 1) ts))) s
+
+-- what the first tests of a list give, all of it gives
+pub early : (ts us : List (Option Told)) (x : Told) → first ts ≡ Some x → first (ts ++ us) ≡ Some x
+early [] us x e = absurd (some-none x (sym e))
+early (None ∷ ts) us x e = early ts us x e
+early (Some y ∷ ts) us x e = e

@@ -15,7 +15,7 @@ use Rattle.maps.specs.declared.refusals.Buffer.the-variants.{Key, Digest, Sign
 use Rattle.maps.specs.declared.refusals.Refusal.{Refusal}
 use Rattle.maps.specs.Shapes.{variables, equations, publicCodes}
 use Rattle.maps.specs.Refusals.{Told, Lent, first, packedRun, bufferTests, Answers}
-use Rattle.maps.specs.Heads.{shapeOf, headTests}
+use Rattle.maps.specs.Heads.{shapeOf, headOf, headTests}
 
 -- The m forms in n variables whose coefficients are a packed run have, at the codes of z, the codes of d as values.
 abbrev pub Satisfies : Ring → List ℕ → ℕ → ℕ → List ℕ → List ℕ → Type 0
@@ -23,12 +23,12 @@ Satisfies R run n m d z = (e : ℕ) → e < m → formAt R n (coefficient (R .q)
 
 -- Every equation of the key, at the signature, equals the digest's code.
 abbrev pub Valid : Ring → List ℕ → List ℕ → List ℕ → Type 0
-Valid R key digest signature = Satisfies R (drop 4 key) (variables (shapeOf key)) (equations (shapeOf key)) digest signature
+Valid R key digest signature = Satisfies R (drop (headOf key .len) key) (variables (shapeOf key)) (equations (shapeOf key)) digest signature
 
 -- the buffers of verify, in their order
 abbrev pub verifyBuffers : ℕ → List ℕ → List ℕ → List ℕ → List Lent
 verifyBuffers q key digest signature =
-    packedRun q Key key 4 (publicCodes (shapeOf key)) ∷ packedRun q Digest digest 0 (equations (shapeOf key)) ∷ packedRun q Signature signature 0 (variables (shapeOf key)) ∷ []
+    packedRun q Key key (headOf key .len) (publicCodes (shapeOf key)) ∷ packedRun q Digest digest 0 (equations (shapeOf key)) ∷ packedRun q Signature signature 0 (variables (shapeOf key)) ∷ []
 
 abbrev pub verifyTests : ℕ → List ℕ → List ℕ → List ℕ → List (Option Told)
 verifyTests q key digest signature = headTests q key ++ bufferTests q (verifyBuffers q key digest signature)

@@ -1,9 +1,10 @@
 ghost use mathlib.Core.Path.{_≡_};
+ghost use mathlib.Core.List.{map};
 ghost use Prim.Native.Nat.{ℕ, _<_, _≤_};
 ghost use lib.ListN.{length, getD};
 ghost use Rattle.std.specs.Orderings.{Decides};
 ghost use Rattle.fields.specs.Packing.{codeAt};
-ghost use Rattle.maps.specs.Refusals.{Answers, first, bufferTests};
+ghost use Rattle.maps.specs.Refusals.{Answers, first, lengthTest, codesTest};
 ghost use Rattle.maps.specs.Heads.{headOf};
 ghost use Rattle.maps.specs.Verdicts.{Satisfies, verifyBuffers, verifyTests, Verdict};
 use super::buffers::foreign_code;
@@ -20,8 +21,30 @@ use fields::read_codes;
 use matrices::evaluate;
 use matrices::zeros;
 
-// The tests of the buffers of `verify`, in order, once the key's head is read.
-fn judge_buffers<R: Ring>(
+// The lengths of the buffers of `verify`, once the key's head is read.
+fn judge_lengths<R: Ring>(
+    ring: &R,
+    head: &Head,
+    key: &[u8],
+    digest: &[u8],
+    signature: &[u8],
+) -> Result<(), Refusal>
+    requires { ⌜ now head ≡ headOf (now key) ⌝ }
+    ensures { λ r. ⌜ Answers (first (map lengthTest (verifyBuffers (R·Ring .ring (now (ring .entry)) .q) (now (key .entry)) (now (digest .entry)) (now (signature .entry))))) r (λ _. Unit {0}) ⌝ }
+{
+    let q = ring.size();
+    let (n, m) = (head.shape.variables(), head.shape.equations());
+    refuse_first(
+        &[
+            wrong_length(Buffer::Key, key, head.public_len(q)),
+            wrong_length(Buffer::Digest, digest, packed_len(q, m)),
+            wrong_length(Buffer::Signature, signature, packed_len(q, n)),
+        ],
+    )
+}
+
+// The codes of the buffers of `verify`, once their lengths are right.
+fn judge_codes<R: Ring>(
     ring: &R,
     head: &Head,
     key: &[u8],
@@ -29,20 +52,15 @@ fn judge_buffers<R: Ring>(
     signature: &[u8],
 ) -> Result<(), Refusal>
     requires { ⌜ now head ≡ headOf (now key) ⌝ ∗ ⌜ 4 ≤ length (now key) ⌝ }
-    ensures { λ r. ⌜ Answers (first (bufferTests (R·Ring .ring (now (ring .entry)) .q) (verifyBuffers (R·Ring .ring (now (ring .entry)) .q) (now (key .entry)) (now (digest .entry)) (now (signature .entry))))) r (λ _. Unit {0}) ⌝ }
+    ensures { λ r. ⌜ Answers (first (map (codesTest (R·Ring .ring (now (ring .entry)) .q)) (verifyBuffers (R·Ring .ring (now (ring .entry)) .q) (now (key .entry)) (now (digest .entry)) (now (signature .entry))))) r (λ _. Unit {0}) ⌝ }
 {
-    let q = ring.size();
     let shape = head.shape;
-    let (n, m) = (shape.variables(), shape.equations());
     let coefficients = &key[head.len as usize..];
     refuse_first(
         &[
-            wrong_length(Buffer::Key, key, head.public_len(q)),
-            wrong_length(Buffer::Digest, digest, packed_len(q, m)),
-            wrong_length(Buffer::Signature, signature, packed_len(q, n)),
             foreign_code(ring, Buffer::Key, coefficients, shape.public_codes()),
-            foreign_code(ring, Buffer::Digest, digest, m),
-            foreign_code(ring, Buffer::Signature, signature, n),
+            foreign_code(ring, Buffer::Digest, digest, shape.equations()),
+            foreign_code(ring, Buffer::Signature, signature, shape.variables()),
         ],
     )
 }
@@ -52,7 +70,8 @@ fn judge<R: Ring>(ring: &R, key: &[u8], digest: &[u8], signature: &[u8]) -> Resu
     ensures { λ r. ⌜ Answers (first (verifyTests (R·Ring .ring (now (ring .entry)) .q) (now (key .entry)) (now (digest .entry)) (now (signature .entry)))) r (λ h. (h ≡ headOf (now (key .entry))) × (4 ≤ length (now (key .entry)))) ⌝ }
 {
     let head = read_head(ring, key)?;
-    judge_buffers(ring, &head, key, digest, signature)?;
+    judge_lengths(ring, &head, key, digest, signature)?;
+    judge_codes(ring, &head, key, digest, signature)?;
     Ok(head)
 }
 

@@ -1,1 +1,4 @@
 pub mod QuadraticSystems
+pub mod Arrays
+pub mod MatrixProducts
+pub mod Linear
