@@ -1,13 +1,13 @@
 -- Row operations on systems of equations over any commutative ring. Assumes nothing.
 use mathlib.Core.Path.{_≡_, refl, sym, ap, ap₂, _∙_}
 use mathlib.Core.Logic.{_≢_}
-use Prim.Native.Nat.{ℕ, zero, suc, _+_, _<_, _≤_}
+use Prim.Native.Nat.{ℕ, suc, _+_, _<_, _≤_}
 use native.Mathlib.Omega.{arith}
 use native.Mathlib.Decide.{decLt, ℕ-discrete}
 use Rattle.algebra.specs.Commutative.{Commutative, total, apply, times}
 use Rattle.algebra.proofs.Laws.{add-mul, one-mul, mul-nil, mul-neg}
 use Rattle.algebra.proofs.Totals.{total-ext, total-add, total-mul, times-apply}
-use Rattle.algebra.proofs.Places.{total-none, total-one, total-two, total-split, difference, apply-short, apply-ext, apply-minus}
+use Rattle.algebra.proofs.Places.{total-none, total-one, total-two, total-split, difference, apply-minus}
 
 -- one of two, by a decision
 pub pick : {A P : Type 0} → Dec P → A → A → A

@@ -1,5 +1,5 @@
 -- Sums in which few places count. Assumes nothing.
-use mathlib.Core.Path.{_≡_, refl, sym, ap, ap₂, _∙_}
+use mathlib.Core.Path.{_≡_, sym, ap, ap₂, _∙_}
 use mathlib.Core.Logic.{_≢_}
 use Prim.Native.Nat.{ℕ, zero, suc, _+_, _<_, _≤_}
 use native.Mathlib.Omega.{arith}
@@ -55,10 +55,6 @@ module _ {A : Type 0} (S : Commutative A) where
       total-split n m (λ j. S .mul (M i j) (z j))
       ∙ ap (S .add (total S n (λ j. S .mul (M i j) (z j)))) (total-none m _ (λ k l. ap (S .mul (M i (n + k))) (h (n + k) (omega arith)) ∙ mul-nil S _))
       ∙ S .add-nil _
-
-  pub apply-ext : (n : ℕ) (M : ℕ → ℕ → A) (y z : ℕ → A) (i : ℕ) → ((j : ℕ) → j < n → y j ≡ z j) → apply S n M y i ≡ apply S n M z i
-  unfolding apply
-  apply-ext n M y z i h = total-ext S n _ _ (λ j l. ap (S .mul (M i j)) (h j l))
 
   pub apply-minus : (n : ℕ) (M : ℕ → ℕ → A) (y z : ℕ → A) (i : ℕ) → apply S n M (λ j. S .add (y j) (S .neg (z j))) i ≡ S .add (apply S n M y i) (S .neg (apply S n M z i))
   unfolding apply

@@ -1,6 +1,5 @@
 -- Square systems over codes: what elimination keeps, and what it ends with. Assumes nothing.
 use mathlib.Core.Path.{_≡_, refl, sym, ap, ap₂, _∙_}
-use mathlib.Core.Bool.{cond}
 use Prim.Native.Nat.{ℕ, zero, suc, _+_, _<_, _≤_}
 use native.Mathlib.Omega.{arith}
 use native.Mathlib.Numerals.{add-one}
@@ -8,7 +7,7 @@ use native.Mathlib.Decide.{decLt, ℕ-discrete}
 use lib.Dec.{eqb}
 use borrow.Author.Tests.{eq-eqb, ne-eqb}
 use Rattle.std.proofs.shelf.Tests.{cond-true, cond-false}
-use Rattle.algebra.specs.Commutative.{Commutative, total, apply, times}
+use Rattle.algebra.specs.Commutative.{Commutative, apply, times}
 use Rattle.algebra.specs.Rings.{Ring, RingLaws}
 use Rattle.algebra.specs.Sums.{sum, dotOf}
 use Rattle.algebra.specs.Systems.{Vector, ZeroFrom, Solves, Annuls, unitMatrix, Singular, Regular, FirstDependent, Solution, Inverse}

@@ -9,16 +9,16 @@ use native.Mathlib.Nat.{add-zero, zero-add, le-of-suc-le-suc, not-suc-le-zero}
 use mir.Syntax.{w8}
 use mir.Val.{Fits}
 use lib.Dec.{eqb, ltb}
-use lib.ListN.{length, getD, drop}
+use lib.ListN.{length, getD, drop, set}
 use borrow.Author.Tests.{lt-ltb, le-ltb, eq-eqb, ne-eqb}
 use Rattle.std.specs.Iters.{counting}
 use Rattle.std.specs.shelf.Lists.{All}
 use Rattle.std.specs.declared.option.Option.{Option}
 use Rattle.std.specs.declared.option.Option.the-variants.{Some, None}
-use Rattle.std.proofs.shelf.Lists.{getD-drop, getD-past, drop-all, ext-getD}
+use Rattle.std.proofs.shelf.Lists.{getD-drop, getD-past, drop-all, ext-getD, length-set, getD-set-same, getD-set-other, set-past}
 use Rattle.std.proofs.shelf.Tests.{cond-true, cond-false, cases-lt, cases-eq}
 use Rattle.std.proofs.shelf.Counted.{length-map-counting, getD-map-counting}
-use Rattle.fields.specs.Packing.{packedLength, half, codeAt, codesFrom, inPairs, packed, orElse, firstForeign, ReadBack, RunsReadBack}
+use Rattle.fields.specs.Packing.{packedLength, half, codeAt, byteAt, withHalf, putCode, codesFrom, inPairs, packed, orElse, firstForeign, ReadBack, RunsReadBack}
 
 pub wide-at : (q : ℕ) (run : List ℕ) (k : ℕ) → 16 < q → codeAt q run k ≡ getD run k 0
 unfolding codeAt
@@ -190,3 +190,129 @@ read-back q cs a = record {
       getD-map-counting (λ i. codeAt q (packed q cs) (0 + i)) 0 (length cs) k k 0 l (zero-add k) ∙ ap (codeAt q (packed q cs)) (zero-add k) ∙ code-back q cs a k l);
   bytes = length-packed q cs;
 }
+
+-- A code written at its place.
+pub wide-byte : (q k : ℕ) → 16 < q → byteAt q k ≡ k
+unfolding byteAt
+wide-byte q k h = cond-true (ltb 16 q) _ _ (lt-ltb 16 q h)
+
+pub narrow-byte : (q k : ℕ) → q ≤ 16 → byteAt q k ≡ k / 2
+unfolding byteAt
+narrow-byte q k h = cond-false (ltb 16 q) _ _ (le-ltb 16 q h)
+
+-- the byte of a place within a run of n codes
+pub byte-within : (q k n : ℕ) → k < n → byteAt q k < packedLength q n
+byte-within q k n l =
+    elim (cases-lt 16 q) [
+      | inl h ↦ let b = wide-byte q k h in let p = wide-length q n h in omega arith
+      | inr h ↦ let b = narrow-byte q k h in let p = narrow-length q n h in omega arith
+    ]
+
+pub with-low : (k c b : ℕ) → k % 2 ≡ 0 → withHalf k c b ≡ b / 16 * 16 + c % 16
+with-low k c b e = cond-true (eqb (k % 2) 0) _ _ (eq-eqb (k % 2) 0 e)
+
+pub with-high : (k c b : ℕ) → (k % 2 ≡ 0 → ⊥) → withHalf k c b ≡ b % 16 + 16 * (c % 16)
+with-high k c b e = cond-false (eqb (k % 2) 0) _ _ (ne-eqb (k % 2) 0 e)
+
+pub wide-put : (q : ℕ) (run : List ℕ) (k c : ℕ) → 16 < q → putCode q run k c ≡ set run k c
+unfolding putCode
+wide-put q run k c h = ap₂ (set run) (wide-byte q k h) (cond-true (ltb 16 q) _ _ (lt-ltb 16 q h))
+
+pub narrow-put : (q : ℕ) (run : List ℕ) (k c : ℕ) → q ≤ 16 → putCode q run k c ≡ set run (k / 2) (withHalf k c (getD run (k / 2) 0))
+unfolding putCode
+narrow-put q run k c h =
+    ap₂ (set run) (narrow-byte q k h) (cond-false (ltb 16 q) _ _ (le-ltb 16 q h) ∙ ap (λ t. withHalf k c (getD run t 0)) (narrow-byte q k h))
+
+pub put-past : (q : ℕ) (run : List ℕ) (k c : ℕ) → length run ≤ byteAt q k → putCode q run k c ≡ run
+unfolding putCode
+put-past q run k c h = set-past run (byteAt q k) _ h
+
+pub length-put : (q : ℕ) (run : List ℕ) (k c : ℕ) → length (putCode q run k c) ≡ length run
+unfolding putCode
+length-put q run k c = length-set run (byteAt q k) _
+
+half-same : (k c b : ℕ) → c < 16 → half k (withHalf k c b) ≡ c
+half-same k c b l =
+    elim (cases-eq (k % 2) 0) [
+      | inl z ↦ half-low k _ z ∙ ap (λ t. t % 16) (with-low k c b z) ∙ omega arith
+      | inr z ↦ half-high k _ z ∙ ap (λ t. t / 16) (with-high k c b z) ∙ omega arith
+    ]
+
+half-other : (k j c b : ℕ) → j / 2 ≡ k / 2 → (j ≡ k → ⊥) → half j (withHalf k c b) ≡ half j b
+half-other k j c b e n =
+    let ne : j ≢ k = n in
+    elim (cases-eq (k % 2) 0) [
+      | inl z ↦
+          let o : j % 2 ≡ 0 → ⊥ = λ i. omega arith in
+          half-high j _ o ∙ ap (λ t. t / 16) (with-low k c b z) ∙ omega arith ∙ sym (half-high j b o)
+      | inr z ↦
+          let nz : (k % 2) ≢ 0 = z in
+          let o : j % 2 ≡ 0 = omega arith in
+          half-low j _ o ∙ ap (λ t. t % 16) (with-high k c b z) ∙ omega arith ∙ sym (half-low j b o)
+    ]
+
+pub put-there : (q : ℕ) (run : List ℕ) (k c : ℕ) → byteAt q k < length run → (c < 16) ⊎ (16 < q) → codeAt q (putCode q run k c) k ≡ c
+put-there q run k c l s =
+    elim (cases-lt 16 q) [
+      | inl h ↦
+          let e = wide-byte q k h in
+          wide-at q (putCode q run k c) k h ∙ ap (λ (xs : List ℕ). getD xs k 0) (wide-put q run k c h) ∙ getD-set-same run k c 0 (omega arith)
+      | inr h ↦
+          let e = narrow-byte q k h in
+          let small : c < 16 = elim s [ inl t ↦ t | inr t ↦ absurd (omega arith) ] in
+          narrow-at q (putCode q run k c) k h ∙ ap (λ (xs : List ℕ). half k (getD xs (k / 2) 0)) (narrow-put q run k c h)
+          ∙ ap (half k) (getD-set-same run (k / 2) _ 0 (omega arith)) ∙ half-same k c _ small
+    ]
+
+pub put-other : (q : ℕ) (run : List ℕ) (k j c : ℕ) → (j ≡ k → ⊥) → codeAt q (putCode q run k c) j ≡ codeAt q run j
+put-other q run k j c n =
+    elim (cases-lt (byteAt q k) (length run)) [
+      | inr p ↦ ap (λ (xs : List ℕ). codeAt q xs j) (put-past q run k c p)
+      | inl l ↦ elim (cases-lt 16 q) [
+        | inl h ↦ wide-at q (putCode q run k c) j h ∙ ap (λ (xs : List ℕ). getD xs j 0) (wide-put q run k c h) ∙ getD-set-other run k j c 0 n ∙ sym (wide-at q run j h)
+        | inr h ↦ narrow-at q (putCode q run k c) j h ∙ ap (λ (xs : List ℕ). half j (getD xs (j / 2) 0)) (narrow-put q run k c h) ∙ narrow (let e = narrow-byte q k h in omega arith) ∙ sym (narrow-at q run j h)
+      ]
+    ]
+  where
+    new : ℕ
+    new = withHalf k c (getD run (k / 2) 0)
+
+    narrow : k / 2 < length run → half j (getD (set run (k / 2) new) (j / 2) 0) ≡ half j (getD run (j / 2) 0)
+    narrow l =
+        elim (cases-eq (j / 2) (k / 2)) [
+          | inl e ↦ ap (λ t. half j (getD (set run (k / 2) new) t 0)) e ∙ ap (half j) (getD-set-same run (k / 2) new 0 l) ∙ half-other k j c (getD run (k / 2) 0) e n ∙ ap (λ t. half j (getD run t 0)) (sym e)
+          | inr e ↦ ap (half j) (getD-set-other run (k / 2) (j / 2) new 0 e)
+        ]
+
+-- A run is fixed by its codes; the half byte over is 0.
+pub run-from-codes : (q : ℕ) (run cs : List ℕ) → length run ≡ packedLength q (length cs) → All (λ c. c < q) cs → ((k : ℕ) → k < length cs → codeAt q run k ≡ getD cs k 0) → (q ≤ 16 → codeAt q run (length cs) ≡ 0) → run ≡ packed q cs
+run-from-codes q run cs len small same over =
+    elim (cases-lt 16 q) [
+      | inl h ↦
+          let e : length run ≡ length cs = len ∙ wide-length q (length cs) h in
+          ext-getD 0 run cs e (λ i l. sym (wide-at q run i h) ∙ same i (omega arith)) ∙ sym (wide-packed q cs h)
+      | inr h ↦
+          let n = narrow-length q (length cs) h in
+          let e : length run ≡ length (inPairs cs) = len ∙ n ∙ sym (length-pairs cs) in
+          ext-getD 0 run (inPairs cs) e (λ i l. byte h i (omega arith) ∙ sym (pair-at cs i)) ∙ sym (narrow-packed q cs h)
+    ]
+  where
+    code : (k : ℕ) → q ≤ 16 → k < length cs + 1 → (codeAt q run k ≡ getD cs k 0) × (getD cs k 0 < 16)
+    code k h l =
+        elim (cases-lt k (length cs)) [
+          | inl g ↦ let s = all-at q cs small k g in (same k g, omega arith)
+          | inr g ↦
+              let e : length cs ≡ k = omega arith in
+              let z = getD-past cs k 0 g in
+              (ap (codeAt q run) (sym e) ∙ over h ∙ sym z, omega arith)
+        ]
+
+    byte : q ≤ 16 → (i : ℕ) → 2 * i < length cs → getD run i 0 ≡ getD cs (2 * i) 0 % 16 + 16 * (getD cs (2 * i + 1) 0 % 16)
+    byte h i l =
+        let (x, lx) = code (2 * i) h (omega arith) in
+        let (y, ly) = code (2 * i + 1) h (omega arith) in
+        let ex : 2 * i / 2 ≡ i = omega arith in
+        let ey : (2 * i + 1) / 2 ≡ i = omega arith in
+        let low : getD run i 0 % 16 ≡ getD cs (2 * i) 0 = ap (λ t. getD run t 0 % 16) (sym ex) ∙ sym (half-low (2 * i) _ (omega arith)) ∙ sym (narrow-at q run (2 * i) h) ∙ x in
+        let high : getD run i 0 / 16 ≡ getD cs (2 * i + 1) 0 = ap (λ t. getD run t 0 / 16) (sym ey) ∙ sym (half-high (2 * i + 1) _ (λ o. omega arith)) ∙ sym (narrow-at q run (2 * i + 1) h) ∙ y in
+        omega arith

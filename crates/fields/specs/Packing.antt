@@ -4,7 +4,7 @@ use mathlib.Core.Bool.{Bool, cond}
 use mathlib.Core.List.{List, [], _∷_, map}
 use Prim.Native.Nat.{ℕ, zero, suc, _+_, _*_, _/_, _%_, _<_}
 use lib.Dec.{eqb, ltb}
-use lib.ListN.{length, getD}
+use lib.ListN.{length, getD, set}
 use Rattle.std.specs.Iters.{counting}
 use Rattle.std.specs.shelf.Lists.{All}
 use Rattle.std.specs.declared.option.Option.{Option}
@@ -21,6 +21,18 @@ half k b = cond (eqb (k % 2) 0) (b % 16) (b / 16)
 -- the code at place k of a run, from 0; 0 past the run's end
 unfoldable pub codeAt : ℕ → List ℕ → ℕ → ℕ
 codeAt q run k = cond (ltb 16 q) (getD run k 0) (half k (getD run (k / 2) 0))
+
+-- the byte that has the code at place k
+unfoldable pub byteAt : ℕ → ℕ → ℕ
+byteAt q k = cond (ltb 16 q) k (k / 2)
+
+-- b with c modulo 16 as its low or its high four bits, as k is even or odd
+abbrev pub withHalf : ℕ → ℕ → ℕ → ℕ
+withHalf k c b = cond (eqb (k % 2) 0) (b / 16 * 16 + c % 16) (b % 16 + 16 * (c % 16))
+
+-- a run with the code c at place k; the run itself past its end
+unfoldable pub putCode : ℕ → List ℕ → ℕ → ℕ → List ℕ
+putCode q run k c = set run (byteAt q k) (cond (ltb 16 q) c (withHalf k c (getD run (byteAt q k) 0)))
 
 -- the n codes of a run from place k on
 unfoldable pub codesFrom : ℕ → List ℕ → ℕ → ℕ → List ℕ

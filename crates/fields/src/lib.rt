@@ -31,6 +31,7 @@ pub use packing::packed_len;
 pub use packing::read_code;
 pub use packing::read_codes;
 pub use packing::runs_read_back;
+pub use packing::write_code;
 pub use packing::write_codes;
 pub use rings::Field;
 pub use rings::Ring;

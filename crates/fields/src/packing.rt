@@ -3,7 +3,7 @@ ghost use mathlib.Core.Bool.{true, false, cond};
 ghost use Prim.Native.Nat.{ℕ, _+_, _<_, _≤_};
 ghost use lib.Dec.{eqb};
 ghost use lib.ListN.{length, getD};
-ghost use Rattle.fields.specs.Packing.{packedLength, codeAt, codesFrom, packed, firstForeign, RunsReadBack};
+ghost use Rattle.fields.specs.Packing.{packedLength, codeAt, codesFrom, packed, putCode, firstForeign, RunsReadBack};
 use super::rings::Ring;
 
 // A ring of at most so many codes has two codes a byte, any other one.
@@ -37,6 +37,27 @@ pub fn read_codes<R: Ring>(ring: &R, run: &[u8], from: usize, codes: &mut [u8])
     let rest = &run[start..];
     for i in 0..codes.len() {
         codes[i] = read_code(ring, rest, from % per_byte + i);
+    }
+}
+
+// Writes the code at place k of a packed run, modulo 16 where two codes take a byte; past the run's end nothing changes.
+pub fn write_code<R: Ring>(ring: &R, run: &mut [u8], k: usize, code: u8)
+    ensures { λ _. ⌜ now (run .exit) ≡ putCode (R·Ring .ring (now (ring .entry)) .q) (now (run .entry)) k code ⌝ }
+{
+    let wide = ring.size() > TWO_A_BYTE;
+    let at = if wide { k } else { k / 2 };
+    if at >= run.len() {
+        return;
+    }
+    if wide {
+        run[at] = code;
+        return;
+    }
+    let byte = run[at];
+    if k % 2 == 0 {
+        run[at] = byte / 16 * 16 + code % 16;
+    } else {
+        run[at] = byte % 16 + 16 * (code % 16);
     }
 }
 

@@ -1,3 +1,10 @@
 pub mod Orders
 pub mod Values
 pub mod Cases
+pub mod Publishing
+pub mod Mixing
+pub mod PublicTests
+pub mod Composition
+pub mod MaskRows
+pub mod Groups
+pub mod RowFills

@@ -22,10 +22,10 @@ pass t ts e = ap (λ (u : Option Told). orElse u (first ts)) e
 pub stop : (t : Option Told) (ts : List (Option Told)) (x : Told) → t ≡ Some x → first (t ∷ ts) ≡ Some x
 stop t ts x e = ap (λ (u : Option Told). orElse u (first ts)) e
 
-some-none : (x : Told) → Some x ≡ None → ⊥
+pub some-none : (x : Told) → Some x ≡ None → ⊥
 some-none x e = let z : _≡_ {A = ℕ} 0 1 = cc in omega arith
 
-parts : (t u : Option Told) → orElse t u ≡ None → (t ≡ None) × (u ≡ None)
+pub parts : (t u : Option Told) → orElse t u ≡ None → (t ≡ None) × (u ≡ None)
 parts None u e = (refl, e)
 parts (Some x) u e = (e, absurd (some-none x e))
 

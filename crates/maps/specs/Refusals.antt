@@ -48,6 +48,10 @@ pub record Lent : Type 0 where
 abbrev pub packedRun : ℕ → Buffer → List ℕ → ℕ → ℕ → Lent
 packedRun q b bytes h n = record { name = b; fits = eqb (length bytes) (h + packedLength q n); count = n; code = codeAt q (drop h bytes) }
 
+-- a buffer that is written or worked in: only its length is tested
+abbrev pub space : Buffer → Bool → Lent
+space b fits = record { name = b; fits = fits; count = 0; code = λ _. 0 }
+
 abbrev pub lengthTest : Lent → Option Told
 lengthTest l = test (not (l .fits)) (WrongLength (l .name))
 

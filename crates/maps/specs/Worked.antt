@@ -12,10 +12,15 @@ use Rattle.maps.specs.Shapes.{variables, equations, secretCodes, publicCodes}
 use Rattle.maps.specs.Heads.{keyLength}
 use Rattle.maps.specs.Sets.{setOf}
 use Rattle.maps.specs.Verdicts.{Verdict}
+use Rattle.maps.specs.PublicKeys.{Published}
 
 -- a public key modulo 31 of the shape 1, 1, 1
 abbrev pub publicKey31 : List ℕ
 publicKey31 = 30 ∷ 1 ∷ 1 ∷ 1 ∷ 1 ∷ 0 ∷ 7 ∷ 0 ∷ 16 ∷ 1 ∷ 12 ∷ 0 ∷ 24 ∷ 4 ∷ 1 ∷ 9 ∷ []
+
+-- a secret key modulo 31 of that shape
+abbrev pub secretKey31 : List ℕ
+secretKey31 = 30 ∷ 1 ∷ 1 ∷ 1 ∷ 2 ∷ 3 ∷ 7 ∷ 4 ∷ 1 ∷ 1 ∷ 0 ∷ 0 ∷ 1 ∷ 0 ∷ 1 ∷ []
 
 -- the lengths of a set's secret key, public key, signature and digest
 pub record Sizes (s : Set) (secret public signature digest : ℕ) : Type 0 where
@@ -32,6 +37,8 @@ pub record WorkedCases : Type 0 where
   -- GF(16), three codes: the half byte over is ignored
   pub half-zero : codesFrom 16 (159 ∷ 10 ∷ []) 0 3 ≡ 15 ∷ 9 ∷ 10 ∷ []
   pub half-one : codesFrom 16 (159 ∷ 26 ∷ []) 0 3 ≡ 15 ∷ 9 ∷ 10 ∷ []
+  -- that key is the public key of the secret one
+  pub public31 : Published (modular 31) secretKey31 publicKey31
   -- that key says yes to the signature 12 24 2 for the digest 10 4
   pub verdict31 : Verdict (modular 31) publicKey31 (10 ∷ 4 ∷ []) (12 ∷ 24 ∷ 2 ∷ []) (Ok true)
   -- the four named sets

@@ -1,18 +1,28 @@
 // Rainbow keys: their shapes and heads, the refusals, the named sets, and the verdict on a signature.
 mod buffers;
+mod central;
+mod compositions;
+mod forms_put;
 mod heads;
+mod masks;
 mod numbers;
+mod public_keys;
+mod public_runs;
 mod refusals;
 mod sets;
 mod shapes;
 mod sizes;
 mod verdicts;
+mod wipes;
 mod worked;
 
+pub use compositions::composition_stands;
+pub use compositions::verdict_stands;
 pub use heads::Head;
 pub use heads::read_head;
 pub use numbers::BufferDisplay;
 pub use numbers::RefusalDisplay;
+pub use public_keys::public_key;
 pub use refusals::Buffer;
 pub use refusals::BufferDebug;
 pub use refusals::BufferPartialEq;

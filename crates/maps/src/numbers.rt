@@ -26,6 +26,8 @@ pub impl fmt::Display for Buffer as BufferDisplay {
                 Buffer::Key => "key",
                 Buffer::Digest => "digest",
                 Buffer::Signature => "signature",
+                Buffer::PublicKey => "public key",
+                Buffer::Workspace => "workspace",
             },
         )
     }

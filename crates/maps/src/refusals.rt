@@ -4,6 +4,8 @@ pub enum Buffer {
     Key,
     Digest,
     Signature,
+    PublicKey,
+    Workspace,
 }
 
 // Why a call says no. Each case has a number and values, which docs/REFUSALS.md lists.

@@ -12,7 +12,7 @@ const LARGEST: Shape = Shape {
 };
 
 // How many pairs i <= j of n variables there are.
-fn pairs(n: usize) -> usize
+pub(crate) fn pairs(n: usize) -> usize
     requires { ⌜ n ≤ 196605 ⌝ }
     ensures value { λ r. ⌜ r ≡ pairsOf n ⌝ }
     ensures bound { λ r. ⌜ r ≤ 2 ^ 35 ⌝ }
@@ -21,7 +21,7 @@ fn pairs(n: usize) -> usize
 }
 
 // The coefficients of a layer: o equations, each over the pairs of v variables and those of one of them with one of o.
-fn layer_codes(v: usize, o: usize) -> usize
+pub(crate) fn layer_codes(v: usize, o: usize) -> usize
     requires { ⌜ v ≤ 131070 ⌝ ∗ ⌜ o ≤ 65535 ⌝ }
     ensures value { λ r. ⌜ r ≡ layerCodes v o ⌝ }
     ensures bound { λ r. ⌜ r ≤ 2 ^ 52 ⌝ }

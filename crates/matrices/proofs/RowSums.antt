@@ -10,8 +10,9 @@ use native.Mathlib.Decide.{decLt}
 use borrow.Rule.Slice.PartMut.{putMid}
 use Rattle.std.specs.Holes.{between}
 use Rattle.std.proofs.shelf.Edits.{length-between, getD-between}
-use Rattle.algebra.specs.Rings.{Ring}
+use Rattle.algebra.specs.Rings.{Ring, RingLaws}
 use Rattle.algebra.specs.Sums.{dotOf}
+use Rattle.algebra.proofs.Codes.{zero-mul, sum-code}
 use Rattle.algebra.proofs.Systems.{dot-ext}
 use Rattle.fields.specs.Rows.{plusTimes}
 use Rattle.fields.proofs.Additions.{getD-plus}
@@ -35,26 +36,36 @@ combine-more R acc new b fs k w v j e h le len l was =
     (ap (λ xs. getD xs j 0) h ∙ getD-plus R (getD fs k 0) acc (between (k * w) (k * w + w) b) j (omega arith) (omega arith)
     ∙ ap₂ (λ x y. R .add x (R .mul (getD fs k 0) y)) was (getD-between b (k * w) (k * w + w) j 0 (omega arith) ∙ ap (λ s. getD b (k * s + j) 0) e))
 
--- row i of the product is written
-pub multiply-more : (R : Ring) (a b old row : List ℕ) (i k m w : ℕ) → w ≡ m → i * k + k ≤ length a → i * m + m ≤ length old → length row ≡ length (between (i * m) (i * m + m) old) → ((j : ℕ) → j < length (between (i * m) (i * m + m) old) → getD row j 0 ≡ dotOf R (length (between (i * k) (i * k + k) a)) (λ t. getD (between (i * k) (i * k + k) a) t 0) (λ t. entry b (length (between (i * m) (i * m + m) old)) t j)) → ((r j : ℕ) → r < i → j < m → entry old m r j ≡ dotOf R k (entry a k r) (λ t. entry b m t j)) → (r j : ℕ) → r < i + 1 → j < m → entry (putMid (i * m) w old row) m r j ≡ dotOf R k (entry a k r) (λ t. entry b m t j)
-multiply-more R a b old row i k m w e la lo lr h was r j l g =
+-- row k of b is left out where its factor is 0
+pub combine-skip : (R : Ring) → RingLaws R → (b fs : List ℕ) (s k w j : ℕ) → getD fs k 0 ≡ 0 → s ≡ dotOf R k (λ t. getD fs t 0) (λ t. entry b w t j) → s ≡ dotOf R (k + 1) (λ t. getD fs t 0) (λ t. entry b w t j)
+combine-skip R L b fs s k w j z was =
+    let old = dotOf R k (λ t. getD fs t 0) (λ t. entry b w t j) in
+    rw add-one
+    (was ∙ sym (L .add-zero old (sum-code R L k (λ t. R .mul (getD fs t 0) (entry b w t j))))
+    ∙ ap (R .add old) (sym (ap (λ f. R .mul f (entry b w k j)) z ∙ zero-mul R L (entry b w k j))))
+
+-- row i of the product of x and b is written, where fs is row i of x
+pub product-more : (R : Ring) (x : ℕ → ℕ → ℕ) (fs b old row : List ℕ) (i k m w : ℕ) → w ≡ m → length fs ≡ k → ((t : ℕ) → t < k → getD fs t 0 ≡ x i t) → i * m + m ≤ length old → length row ≡ length (between (i * m) (i * m + m) old) → ((j : ℕ) → j < length (between (i * m) (i * m + m) old) → getD row j 0 ≡ dotOf R (length fs) (λ t. getD fs t 0) (λ t. entry b (length (between (i * m) (i * m + m) old)) t j)) → ((r j : ℕ) → r < i → j < m → entry old m r j ≡ dotOf R k (x r) (λ t. entry b m t j)) → (r j : ℕ) → r < i + 1 → j < m → entry (putMid (i * m) w old row) m r j ≡ dotOf R k (x r) (λ t. entry b m t j)
+product-more R x fs b old row i k m w e inner same lo lr h was r j l g =
     elim (decLt r i) [
       | yes s ↦ W .rest (r * m + j) (subst (λ n. (r * m + j < i * m) ⊎ (i * m + n ≤ r * m + j)) (sym e) (row-off r i m j (λ t. omega arith) g)) ∙ was r j s g
       | no s ↦ let q : r ≡ i = omega arith in
-          subst (λ t. entry (putMid (i * m) w old row) m t j ≡ dotOf R k (entry a k t) (λ t. entry b m t j)) (sym q) here
+          subst (λ t. entry (putMid (i * m) w old row) m t j ≡ dotOf R k (x t) (λ t. entry b m t j)) (sym q) here
     ]
   where
     len : length (between (i * m) (i * m + m) old) ≡ m
     len = length-between old (i * m) (i * m + m) lo ∙ omega arith
 
-    inner : length (between (i * k) (i * k + k) a) ≡ k
-    inner = length-between a (i * k) (i * k + k) la ∙ omega arith
-
     W : Written old (putMid (i * m) w old row) w (i * m) (λ t. getD row t 0)
     W = put-written old row (i * m) w (omega arith) (lr ∙ len ∙ sym e)
 
-    here : entry (putMid (i * m) w old row) m i j ≡ dotOf R k (entry a k i) (λ t. entry b m t j)
+    here : entry (putMid (i * m) w old row) m i j ≡ dotOf R k (x i) (λ t. entry b m t j)
     here =
         W .here j (omega arith) ∙ h j (omega (arith, len))
-        ∙ ap₂ (λ n v. dotOf R n (λ t. getD (between (i * k) (i * k + k) a) t 0) (λ t. entry b v t j)) inner len
-        ∙ dot-ext R k _ _ _ _ (λ t s. getD-between a (i * k) (i * k + k) t 0 (omega arith)) (λ t s. refl)
+        ∙ ap₂ (λ n v. dotOf R n (λ t. getD fs t 0) (λ t. entry b v t j)) inner len
+        ∙ dot-ext R k _ _ _ _ same (λ t s. refl)
+
+-- row i of the product is written
+pub multiply-more : (R : Ring) (a b old row : List ℕ) (i k m w : ℕ) → w ≡ m → i * k + k ≤ length a → i * m + m ≤ length old → length row ≡ length (between (i * m) (i * m + m) old) → ((j : ℕ) → j < length (between (i * m) (i * m + m) old) → getD row j 0 ≡ dotOf R (length (between (i * k) (i * k + k) a)) (λ t. getD (between (i * k) (i * k + k) a) t 0) (λ t. entry b (length (between (i * m) (i * m + m) old)) t j)) → ((r j : ℕ) → r < i → j < m → entry old m r j ≡ dotOf R k (entry a k r) (λ t. entry b m t j)) → (r j : ℕ) → r < i + 1 → j < m → entry (putMid (i * m) w old row) m r j ≡ dotOf R k (entry a k r) (λ t. entry b m t j)
+multiply-more R a b old row i k m w e la =
+    product-more R (entry a k) (between (i * k) (i * k + k) a) b old row i k m w e (length-between a (i * k) (i * k + k) la ∙ omega arith) (λ t s. getD-between a (i * k) (i * k + k) t 0 (omega arith))

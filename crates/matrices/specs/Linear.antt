@@ -3,7 +3,7 @@ use mathlib.Core.Path.{_≡_}
 use mathlib.Core.List.{List}
 use mathlib.Core.Logic.{_⊎_}
 use Prim.Native.Nat.{ℕ, _+_, _*_, _<_, _≤_}
-use lib.ListN.{length, getD}
+use lib.ListN.{length}
 use Rattle.algebra.specs.Rings.{Ring}
 use Rattle.algebra.specs.Systems.{Vector, Solves, Singular, Regular, FirstDependent, Solution, Inverse, unitMatrix}
 use Rattle.std.specs.declared.option.Option.{Option}
@@ -21,6 +21,7 @@ pub record Found (R : Ring) (rows : List ℕ) (n w c s : ℕ) (p : Lead) : Type 
   pub inverse : R .mul (entry rows w (p .row) c) (p .inverse) ≡ 1
   pub code : p .inverse < R .q
 
+-- None exactly where the column is 0 from row s on.
 abbrev pub Pivoted : Ring → List ℕ → ℕ → ℕ → ℕ → ℕ → Option Lead → Type 0
 Pivoted R rows n w c s (Some p) = Found R rows n w c s p
 Pivoted R rows n w c s None = (i : ℕ) → s ≤ i → i < n → entry rows w i c ≡ 0
@@ -30,6 +31,7 @@ pub record Fits (R : Ring) (rows : List ℕ) (n m : ℕ) : Type 0 where
   pub places : length rows ≡ n * (n + m)
   pub codes : Codes R rows
 
+-- Another length, or some byte that is no code.
 abbrev pub Misfit : Ring → List ℕ → ℕ → ℕ → Type 0
 Misfit R rows n m = (length rows ≡ n * (n + m) → ⊥) ⊎ Foreign R rows
 
@@ -39,11 +41,12 @@ pub record Solved (R : Ring) (old : List ℕ) (n m : ℕ) (new : List ℕ) : Typ
   pub left : (i j : ℕ) → i < n → j < n → entry new (n + m) i j ≡ unitMatrix i j
   pub right : Solution R n m (entry old (n + m)) (λ i k. entry old (n + m) i (n + k)) (λ i k. entry new (n + m) i (n + k))
 
--- The same of rows that fit: a fault is the first column that depends on those before it, counted from 1.
+-- What is answered for rows that fit: a fault is the first column, counted from 1, that depends on those before it.
 abbrev pub Reduced : Ring → List ℕ → ℕ → ℕ → Result Unit Dependent → List ℕ → Type 0
 Reduced R old n m (Ok _) new = Solved R old n m new
 Reduced R old n m (Err e) new = FirstDependent R n (entry old (n + m)) (e .column) × Codes R new
 
+-- None exactly where the rows do not fit, which leaves them as they were.
 abbrev pub Eliminated : Ring → List ℕ → ℕ → ℕ → Option (Result Unit Dependent) → List ℕ → Type 0
 Eliminated R old n m None new = Misfit R old n m × (new ≡ old)
 Eliminated R old n m (Some r) new = Fits R old n m × Reduced R old n m r new
@@ -72,16 +75,18 @@ pub record InverseFits (R : Ring) (system : List ℕ) (n lent out : ℕ) : Type 
   pub work : 2 * (n * n) ≤ lent
   pub room : out ≡ n * n
 
+-- new is the inverse of the system.
 pub record Inverted (R : Ring) (system : List ℕ) (n : ℕ) (new : List ℕ) : Type 0 where
   pub codes : Codes R new
   pub inverse : Inverse R n (entry system n) (entry new n)
 
+-- None exactly where something does not fit; new is old but where the system is inverted.
 abbrev pub Inverts : Ring → List ℕ → ℕ → ℕ → List ℕ → Option (Result Unit Dependent) → List ℕ → Type 0
 Inverts R system n work old None new = (InverseFits R system n work (length old) → ⊥) × (new ≡ old)
 Inverts R system n work old (Some (Ok _)) new = InverseFits R system n work (length old) × Inverted R system n new
 Inverts R system n work old (Some (Err e)) new = InverseFits R system n work (length old) × (FirstDependent R n (entry system n) (e .column) × (new ≡ old))
 
--- The same where the lengths fit.
+-- The same where the lengths fit: None exactly where some byte of the system is no code.
 abbrev pub InvertsIn : Ring → List ℕ → ℕ → List ℕ → Option (Result Unit Dependent) → List ℕ → Type 0
 InvertsIn R system n old None new = (Codes R system → ⊥) × (new ≡ old)
 InvertsIn R system n old (Some (Ok _)) new = Codes R system × Inverted R system n new

@@ -1,7 +1,7 @@
 ghost use mathlib.Core.Path.{_≡_};
 ghost use mathlib.Core.Logic.{_⊎_};
-ghost use Prim.Native.Nat.{ℕ, _+_, _-_, _*_, _^_, _<_, _≤_};
-ghost use lib.ListN.{length, getD};
+ghost use Prim.Native.Nat.{_+_, _-_, _*_, _^_, _<_, _≤_};
+ghost use lib.ListN.{length};
 ghost use Rattle.matrices.specs.Arrays.{Codes, Sifted, Apart, Swapped, Scaled, Added, Cleared};
 ghost use Rattle.matrices.specs.Linear.{Pivoted, Reduced, Eliminated, Determined, FaultsAreSingular};
 use super::products::fills;

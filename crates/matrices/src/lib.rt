@@ -16,6 +16,7 @@ pub use forms::zeros;
 pub use products::apply;
 pub use products::fills;
 pub use products::multiply;
+pub use products::multiply_transposed;
 pub use systems::invert;
 pub use systems::solve;
 pub use systems::unit_is_regular;

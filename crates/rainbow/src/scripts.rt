@@ -1,4 +1,6 @@
 use super::builtin::verify_key;
+use super::keys::publish;
+use super::keys::spell;
 use maps::RefusalDisplay;
 use maps::Set;
 use maps::named;
@@ -17,6 +19,7 @@ pub(crate) enum Reply {
 // What the script has given so far.
 #[derive(Drop)]
 pub(crate) struct Session {
+    secret: Vec<u8>,
     key: Vec<u8>,
     digest: Vec<u8>,
     signature: Vec<u8>,
@@ -60,6 +63,23 @@ fn describe(heap: Global, name: &str, set: &Set) -> Result<String, AllocError> {
     )
 }
 
+// Reads a buffer from a file, as raw bytes.
+fn read_file(
+    rt: &LibcRuntime,
+    name: &str,
+    path: &str,
+    buffer: &mut Vec<u8>,
+) -> Result<Reply, AllocError> {
+    match fs::read(rt, path) {
+        Ok(bytes) => {
+            let count = bytes.len();
+            *buffer = bytes;
+            Ok(Reply::Said(format!(rt.alloc(), "{name}: {count} bytes")?))
+        }
+        Err(_) => Ok(Reply::Bad(format!(rt.alloc(), "cannot read {path}")?)),
+    }
+}
+
 fn set_line(heap: Global, name: &str) -> Result<Reply, AllocError> {
     match named(name) {
         Some(set) => Ok(Reply::Said(describe(heap, name, &set)?)),
@@ -70,21 +90,28 @@ fn set_line(heap: Global, name: &str) -> Result<Reply, AllocError> {
 impl Session {
     pub(crate) fn new(heap: Global) -> Session {
         Session {
+            secret: Vec::new(heap),
             key: Vec::new(heap),
             digest: Vec::new(heap),
             signature: Vec::new(heap),
         }
     }
 
-    // Reads the key from a file, as raw bytes.
-    fn read_key(&mut self, rt: &LibcRuntime, path: &str) -> Result<Reply, AllocError> {
-        match fs::read(rt, path) {
-            Ok(bytes) => {
-                let count = bytes.len();
-                self.key = bytes;
-                Ok(Reply::Said(format!(rt.alloc(), "key: {count} bytes")?))
-            }
-            Err(_) => Ok(Reply::Bad(format!(rt.alloc(), "cannot read {path}")?)),
+    // Makes the public key of the secret key, and prints it or writes it to a file.
+    fn public(&self, rt: &LibcRuntime, path: &str) -> Result<Reply, AllocError> {
+        let heap = rt.alloc();
+        let public = match publish(heap, self.secret.as_slice())? {
+            Ok(bytes) => bytes,
+            Err(refusal) => return Ok(Reply::Said(format!(heap, "refused: {refusal}")?)),
+        };
+        if path.is_empty() {
+            let text = spell(heap, public.as_slice())?;
+            return Ok(Reply::Said(format!(heap, "public:{text}")?));
+        }
+        let count = public.len();
+        match fs::write(rt, path, public.as_slice()) {
+            Ok(()) => Ok(Reply::Said(format!(heap, "public: {count} bytes written to {path}")?)),
+            Err(_) => Ok(Reply::Bad(format!(heap, "cannot write {path}")?)),
         }
     }
 
@@ -114,7 +141,10 @@ impl Session {
         match word {
             "set" => set_line(heap, rest),
             "key" => put(heap, "key", rest, &mut self.key),
-            "key-file" => self.read_key(rt, rest),
+            "key-file" => read_file(rt, "key", rest, &mut self.key),
+            "secret" => put(heap, "secret", rest, &mut self.secret),
+            "secret-file" => read_file(rt, "secret", rest, &mut self.secret),
+            "public" => self.public(rt, rest),
             "digest" => put(heap, "digest", rest, &mut self.digest),
             "signature" => put(heap, "signature", rest, &mut self.signature),
             "verify" if rest.is_empty() => self.verdict(heap),
