@@ -138,3 +138,19 @@ fn sixteen_codes() -> Result<(), Fail> {
     check_eq(said(eliminate(&field, &mut c, 2, 1)), 0)?;
     check_eq(c, [1u8, 0, 8, 0, 1, 4])
 }
+
+// GF(16): x + 4 y = 7, y + 8 z = 9 and x + 4 y + z = 15 at (1, 4, 8), as 1 + 6 = 7, 4 + 13 = 9 and 7 + 8 = 15.
+// A zero column; a third column that is 4 times the first and the second, (4, 0, 6) + (0, 1, 8); a zero row, in which (2, 0, 5) is not 2 times (1, 0, 4), that is (2, 0, 8).
+#[test]
+fn sixteen_codes_three_equations() -> Result<(), Fail> {
+    let field = gf16();
+    let mut a = [1u8, 4, 0, 7, 0, 1, 8, 9, 1, 4, 1, 15];
+    check_eq(said(eliminate(&field, &mut a, 3, 1)), 0)?;
+    check_eq(a, [1u8, 0, 0, 1, 0, 1, 0, 4, 0, 0, 1, 8])?;
+    let mut b = [0u8, 1, 2, 0, 3, 4, 0, 5, 7];
+    check_eq(said(eliminate(&field, &mut b, 3, 0)), 1)?;
+    let mut c = [1u8, 0, 4, 0, 1, 1, 4, 8, 14];
+    check_eq(said(eliminate(&field, &mut c, 3, 0)), 3)?;
+    let mut d = [1u8, 2, 3, 0, 0, 0, 4, 5, 7];
+    check_eq(said(eliminate(&field, &mut d, 3, 0)), 3)
+}
