@@ -1,7 +1,7 @@
 -- The two-element field keeps the laws: each is a test at its two, four or eight places. Assumes nothing.
-use Rattle.std.proofs.Common.{◌≡◌, ℕ, ◌<◌, ◌≤◌, T, eqb, ltb, ◌⊎◌, Some, None, Option, sym, refl, ap, ◌∙◌, subst, inl, inr, arith, eqb→eq, ltb→lt, lt→ltb}
+use Rattle.std.proofs.Common.{◌≡◌, ℕ, ◌<◌, None, refl, arith}
 use lib.Bits.{bit_xor, bit_and}
-use Rattle.algebra.specs.Rings.{Ring, RingLaws, IsInverse, ring_of}
+use Rattle.algebra.specs.Rings.{RingLaws, IsInverse}
 use Rattle.std.proofs.lemmas.Bool.Decides.{nat_tests}
 use Rattle.algebra.specs.Bits.{two_elements, bit_inverse}
 use Rattle.algebra.proofs.Guarded.{CodeLaws, ring_laws}

@@ -1,7 +1,6 @@
 -- A ring from functions that keep the laws on codes only. Assumes nothing.
 use Rattle.std.proofs.Common.{◌≡◌, ℕ, ◌<◌, ◌≤◌, Bool, true, false, cond, ltb, ◌⊎◌, Option, sym, refl, ap, ◌∙◌, subst, ap₂, inl, inr, arith, le-ltb, lt-ltb}
-use mathlib.Core.Path.{subst⁻¹}
-use Rattle.std.proofs.lemmas.Bool.Decides.{leb_tells, nat_tests}
+use Rattle.std.proofs.lemmas.Bool.Decides.{leb_tells}
 use Rattle.algebra.specs.Rings.{Ring, RingLaws, IsInverse, on_code, on_codes, ring_of}
 
 -- The laws, asked of codes only.

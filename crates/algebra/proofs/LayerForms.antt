@@ -1,14 +1,13 @@
 -- A form whose terms have a first variable below v and a second below v + o, as a constant and a linear part. Assumes nothing.
-use Rattle.std.proofs.Common.{◌≡◌, ℕ, ◌+◌, ◌<◌, ◌≤◌, ◌⊎◌, sym, refl, ap, ◌∙◌, ap₂, inl, inr, arith}
+use Rattle.std.proofs.Common.{◌≡◌, ℕ, ◌+◌, ◌<◌, ◌≤◌, ◌⊎◌, sym, ap, ◌∙◌, ap₂, inl, inr, arith}
 use Rattle.algebra.specs.Commutative.{Commutative, total, value}
 use Rattle.algebra.specs.Rings.{Ring, RingLaws}
-use Rattle.algebra.specs.Sums.{sum, dot_of}
 use Rattle.algebra.specs.Forms.{form_at}
 use Rattle.algebra.specs.Layers.{layer_entry, layer_constant, layer_value}
 use Rattle.algebra.proofs.Laws.{mul_nil}
 use Rattle.algebra.proofs.Totals.{total_ext, total_add, total_swap, total_mul_right, value_pairs}
 use Rattle.algebra.proofs.Places.{total_none, total_split}
-use Rattle.algebra.proofs.Codes.{Code, codes, code, code_known, nil_code, sum_code}
+use Rattle.algebra.proofs.Codes.{codes, code, code_known, nil_code, sum_code}
 use Rattle.algebra.proofs.Bridge.{vector, matrix, code_back, mul_of, sum_of, form_of}
 
 module _ {A : Type 0} (S : Commutative A) where

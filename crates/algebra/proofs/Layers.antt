@@ -1,22 +1,21 @@
 -- Forms in two layers between two masks: what solves both layers is taken back by the masks, and nothing else is. Assumes nothing.
-use Rattle.std.proofs.Common.{◌≡◌, ℕ, zero, suc, ◌+◌, ◌-◌, ◌<◌, ◌≤◌, ltb, ◌⊎◌, Option, sym, refl, ap, ◌∙◌, subst, ap₂, inl, inr, add-zero, arith, le-ltb, lt-ltb}
-use native.Mathlib.Nat.{add-sub_cancel_left}
+use Rattle.std.proofs.Common.{◌≡◌, ℕ, zero, suc, ◌+◌, ◌-◌, ◌<◌, ltb, sym, refl, ap, ◌∙◌, subst, ap₂, inl, inr, add-zero, arith, le-ltb, lt-ltb}
 use native.Mathlib.Decide.{dec_lt}
 use Rattle.std.proofs.lemmas.Bool.{cond-true, cond-false}
-use Rattle.algebra.specs.Commutative.{Commutative, total, apply}
-use Rattle.algebra.specs.Rings.{Ring, RingLaws, IsInverse}
+use Rattle.algebra.specs.Commutative.{apply}
+use Rattle.algebra.specs.Rings.{Ring, RingLaws}
 use Rattle.algebra.specs.Sums.{sum, dot_of}
 use Rattle.algebra.specs.Forms.{form_at}
 use Rattle.algebra.specs.Matrices.{applied}
-use Rattle.algebra.specs.Masks.{Inverse, Undoes}
-use Rattle.algebra.specs.Systems.{Vector, Singular, Solves}
-use Rattle.algebra.specs.Layers.{layer_entry, layer_constant, layer_value, joined, later_forms, TwoLayers, composition, Halfway, SecondSingular, Signs, minus}
+use Rattle.algebra.specs.Masks.{Inverse}
+use Rattle.algebra.specs.Systems.{Vector}
+use Rattle.algebra.specs.Layers.{layer_entry, layer_constant, layer_value, joined, later_forms, TwoLayers, composition, Signs, minus}
 use Rattle.algebra.proofs.Laws.{neg_cancel, add_left}
 use Rattle.algebra.proofs.Places.{apply_minus}
-use Rattle.algebra.proofs.Codes.{Code, codes, code, code_known, nil_code, sum_code, sum_total, mul_zero, zero_mul}
+use Rattle.algebra.proofs.Codes.{Code, codes, nil_code, sum_code, sum_total, mul_zero, zero_mul}
 use Rattle.algebra.proofs.Bridge.{vector, matrix, code_number, mul_by, applied_of}
 use Rattle.algebra.proofs.SumLaws.{sum_ext, form_ext}
-use Rattle.algebra.proofs.LayerForms.{entry_code, constant_code, layer_value_lem}
+use Rattle.algebra.proofs.LayerForms.{constant_code, layer_value_lem}
 
 pub joined_low : (v : ℕ) (w y : ℕ → ℕ) (i : ℕ) → i < v → joined v w y i ≡ w i
 unfolding joined

@@ -1,10 +1,10 @@
 -- The integers modulo m keep the laws of a ring, and modulo 31 those of a field. Assumes nothing.
-use Rattle.std.proofs.Common.{◌≡◌, ℕ, zero, suc, ◌+◌, ◌-◌, ◌*◌, ◌/◌, ◌%◌, ◌<◌, ◌≤◌, Bool, true, false, cond, not, ◌&&◌, ◌||◌, eqb, ltb, get_or, Some, None, Option, sym, refl, ap, ◌∙◌, subst, ap₂, add-zero, add_assoc, mod-lt, mod-eq_of_lt, mul_assoc, mul_comm, add-mul, add_comm, mul-one, mul-add, arith}
+use Rattle.std.proofs.Common.{◌≡◌, ℕ, ◌+◌, ◌-◌, ◌*◌, ◌/◌, ◌%◌, ◌<◌, ◌≤◌, Bool, true, cond, ◌&&◌, ◌||◌, eqb, ltb, get_or, Some, None, sym, refl, ap, ◌∙◌, subst, add-zero, add_assoc, mod-lt, mod-eq_of_lt, mul_assoc, mul_comm, add-mul, add_comm, mul-one, mul-add, arith}
 use native.Mathlib.Nat.{mod-add-div, mod_self, add-mul-mod_self_left, mod-add-mod, add-mod-mod, add-mod}
 use Rattle.std.proofs.lemmas.Bool.Decides.{nat_tests}
-use Rattle.algebra.specs.Rings.{Ring, RingLaws, IsInverse, ring_of, on_codes}
+use Rattle.algebra.specs.Rings.{RingLaws, IsInverse}
 use Rattle.algebra.specs.Modular.{modular, inverses31, inverse31}
-use Rattle.algebra.proofs.Everywhere.{all_below, everywhere}
+use Rattle.algebra.proofs.Everywhere.{everywhere}
 use Rattle.algebra.proofs.Guarded.{CodeLaws, ring_laws, two_in}
 
 mod_mul : (x c m : ℕ) → (x % m) * c % m ≡ x * c % m

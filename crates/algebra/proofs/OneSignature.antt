@@ -1,14 +1,13 @@
 -- Forms in two layers between two masks, over a field: where both layers' systems are regular there is one signature. Assumes nothing.
-use Rattle.std.proofs.Common.{◌≡◌, ℕ, ◌+◌, ◌-◌, ◌<◌, ◌≤◌, Option, sym, refl, ap, ◌∙◌, subst, ap₂, arith}
+use Rattle.std.proofs.Common.{◌≡◌, ℕ, ◌+◌, ◌-◌, ◌<◌, Option, sym, refl, ap, ◌∙◌, subst, arith}
 use native.Mathlib.Decide.{dec_lt}
 use Rattle.algebra.specs.Rings.{Ring, RingLaws, IsInverse}
-use Rattle.algebra.specs.Sums.{dot_of}
 use Rattle.algebra.specs.Matrices.{applied}
 use Rattle.algebra.specs.Masks as masks
 use Rattle.algebra.specs.Systems.{Vector, Singular, Solves, Inverse}
 use Rattle.algebra.specs.Layers.{layer_entry, layer_constant, layer_value, joined, later_forms, TwoLayers, Halfway, SecondSingular, Signs}
 use Rattle.algebra.proofs.LayerForms.{entry_code}
-use Rattle.algebra.proofs.Layers.{joined_low, joined_high, joined_vector, entry_ext, constant_ext, value_ext, applied_code, layer_solved, solved_layer, first_value, second_value, forms_from, signature_from, values_of, same_image}
+use Rattle.algebra.proofs.Layers.{joined_low, joined_vector, entry_ext, constant_ext, value_ext, applied_code, layer_solved, solved_layer, first_value, second_value, forms_from, signature_from, values_of, same_image}
 use Rattle.algebra.proofs.Systems.{dot_ext}
 use Rattle.algebra.proofs.Solvable.{invertible, solvable, inverse_only}
 

@@ -2,7 +2,7 @@
 use Rattle.std.proofs.Common.{refl, lit<, lit≤}
 use Rattle.algebra.specs.Bits.{two_elements}
 use Rattle.algebra.specs.Extension.{Extends}
-use Rattle.algebra.specs.Tower.{gf4, gf16, TowerCases}
+use Rattle.algebra.specs.Tower.{gf16, TowerCases}
 use Rattle.algebra.proofs.Rootless.{extends}
 
 pub extends2 : Extends two_elements 1

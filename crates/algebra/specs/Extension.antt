@@ -1,5 +1,5 @@
 -- The quadratic extension of a ring of q codes by a code c: the code low + q * high stands for low + high e, where e e = e + c.
-use Rattle.std.specs.Prelude.{◌≡◌, ℕ, ◌+◌, ◌*◌, ◌/◌, ◌%◌, ◌<◌, ◌≤◌, cond, Some, None, Option, ◌≢◌, nat_lt}
+use Rattle.std.specs.Prelude.{ℕ, ◌+◌, ◌*◌, ◌/◌, ◌%◌, ◌<◌, ◌≤◌, cond, Some, None, Option, ◌≢◌, nat_lt}
 use Rattle.algebra.specs.Rings.{Ring, ring_of}
 
 -- What makes the extension of a field a field of at most 256 codes: t t - t - c is irreducible.

@@ -1,5 +1,5 @@
 -- The integers modulo m.
-use Rattle.std.specs.Prelude.{ℕ, ◌+◌, ◌-◌, ◌*◌, ◌%◌, cond, ◌&&◌, List, [], ◌∷◌, Some, None, Option, nat_lt, slice_index}
+use Rattle.std.specs.Prelude.{ℕ, ◌+◌, ◌-◌, ◌*◌, ◌%◌, cond, List, [], ◌∷◌, Some, None, Option, nat_lt, slice_index}
 use Rattle.algebra.specs.Rings.{Ring, ring_of}
 
 abbrev pub modular : ℕ → Ring

@@ -1,5 +1,5 @@
 -- The fields of 4, 16 and 256 codes, each a quadratic extension of the one below, from the two-element field up.
-use Rattle.std.specs.Prelude.{◌≡◌, ℕ, Some, None, Option}
+use Rattle.std.specs.Prelude.{◌≡◌, ℕ, Some, Option}
 use Rattle.algebra.specs.Rings.{Ring}
 use Rattle.algebra.specs.Bits.{two_elements, bit_inverse}
 use Rattle.algebra.specs.Extension.{extension, inverse_over}

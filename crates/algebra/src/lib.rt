@@ -1,1 +1,3 @@
+#![tactic(auto)]
+
 // Mathematics with no code to run: see specs/ and proofs/.

@@ -1,3 +1,5 @@
+#![tactic(auto)]
+
 // Rings and fields of at most 256 codes, their suppliers, and codes in bytes.
 mod bits;
 mod extension;

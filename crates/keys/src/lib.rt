@@ -1,3 +1,5 @@
+#![tactic(auto)]
+
 // Rainbow keys: their shapes, lengths and heads, the named sets, the refusals, and what a call does first and last.
 mod buffers;
 mod faults;

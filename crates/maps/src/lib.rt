@@ -1,3 +1,5 @@
+#![tactic(auto)]
+
 // What keys compute: the public key of a secret key, and the verdict on a signature.
 mod central;
 mod central_rows;

@@ -1,3 +1,5 @@
+#![tactic(auto)]
+
 // Sums, products, quadratic forms and systems of equations over lent slices of codes.
 mod dots;
 mod elimination;

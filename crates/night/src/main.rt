@@ -1,3 +1,5 @@
+#![tactic(auto)]
+
 // Runs the calls of a shelf in a fixed order, and prints the answers.
 mod benches;
 mod endings;

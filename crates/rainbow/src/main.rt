@@ -1,3 +1,5 @@
+#![tactic(auto)]
+
 // Reads a script of calls, one a line, and prints the answer to each.
 mod builtin;
 mod publishing;

@@ -1,3 +1,5 @@
+#![tactic(auto)]
+
 // A shelf of prepared starts: each is taken once, and ends in one signature or is thrown away.
 mod judges;
 mod makes;

@@ -1,3 +1,5 @@
+#![tactic(auto)]
+
 // Layer systems, and what a signature is: the start of a vinegar, its end in a signature, and the laws of both, apart from any shelf.
 mod finishes;
 mod laws;

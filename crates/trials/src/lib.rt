@@ -1,3 +1,5 @@
+#![tactic(auto)]
+
 // Worked cases of the fields, of linear systems and of signatures, as tests.
 #[cfg(test)]
 mod fields_of;
