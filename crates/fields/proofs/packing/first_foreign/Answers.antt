@@ -8,8 +8,8 @@ returns-then-q-eq16 g c =
     let q = (g.R.Ring.ring c.args.ring.now).q in
     let run = c.args.run.now in
     elim c.then-q-eq16.either [
-      | inl e ↦ sym (none_foreign q (code_at q run) (full_16 q run (sym c.size-q.ensures ∙ e) c.type-inv.run) c.args.n)
-      | inr e ↦ sym (none_foreign q (code_at q run) (full_256 q run (sym c.size-q.ensures ∙ e.1) c.type-inv.run) c.args.n)
+      | inl e ↦ sym (none_foreign q (code_at q run) (full_16 q run (sym c.size-q.ensures ∙ e) c.type_inv.run) c.args.n)
+      | inr e ↦ sym (none_foreign q (code_at q run) (full_256 q run (sym c.size-q.ensures ∙ e.1) c.type_inv.run) c.args.n)
     ]
 
 pub loop-k-preserved : goal.loop-k-preserved
@@ -20,8 +20,8 @@ loop-k-preserved g c =
     let less : code_at q run k < q = omega arith in
     (omega arith, rw add-one (foreign_more q (code_at q run) k c.loop-k.invariant.1 less))
 
-pub returns-then-read-code-q : goal.returns-then-read-code-q
-returns-then-read-code-q g c =
+pub returns-then-read_code-q : goal.returns-then-read_code-q
+returns-then-read_code-q g c =
     let q = (g.R.Ring.ring c.args.ring.now).q in
     let run = c.args.run.now in
     let k = c.loop-k.k in

@@ -6,13 +6,13 @@ use Rattle.fields.proofs.Runs.{wide_length, narrow_length, wide_packed, narrow_p
 use Rattle.fields.proofs.packing.write_codes.Goals as goal
 use Rattle.fields.proofs.packing.write_codes.Goals.{then-i-codes, else-i-codes}
 
-pub copy-from-slice-requires : goal.copy-from-slice-requires
-copy-from-slice-requires g c = let e = wide_length c.size-q.result (length c.args.codes.now) (omega arith) in omega arith
+pub copy_from_slice-requires : goal.copy_from_slice-requires
+copy_from_slice-requires g c = let e = wide_length c.size-q.result (length c.args.codes.now) (omega arith) in omega arith
 
-pub returns-then-q-gt-TWO-A-BYTE : goal.returns-then-q-gt-TWO-A-BYTE
-returns-then-q-gt-TWO-A-BYTE g c =
+pub returns-then-q-gt-TWO_A_BYTE : goal.returns-then-q-gt-TWO_A_BYTE
+returns-then-q-gt-TWO_A_BYTE g c =
     let q = (g.R.Ring.ring c.args.ring.now).q in
-    (sym (eq-eqb _ _ (c.if-run-packed-len.false ∙ c.packed-len.ensures.value ∙ ap (λ (p : ℕ). packed_length p (length c.args.codes.now)) c.size-q.ensures)), c.copy-from-slice.ensures.after ∙ sym (wide_packed q c.args.codes.now (omega arith)))
+    (sym (eq-eqb _ _ (c.if-run-packed_len.false ∙ c.packed_len.ensures.value ∙ ap (λ (p : ℕ). packed_length p (length c.args.codes.now)) c.size-q.ensures)), c.copy_from_slice.ensures.after ∙ sym (wide_packed q c.args.codes.now (omega arith)))
 
 pub bounds-codes-i-in-loop-i : goal.bounds-codes-i-in-loop-i
 bounds-codes-i-in-loop-i g c = let e = narrow_length c.size-q.result (length c.args.codes.now) (omega arith) in omega arith
@@ -33,4 +33,4 @@ returns g c =
     let codes = c.args.codes.now in
     let e = narrow_length c.size-q.result (length codes) (omega arith) in
     let l : length c.loop-i.run ≡ length (in_pairs codes) = let n = length_pairs codes in omega arith in
-    (sym (eq-eqb _ _ (c.if-run-packed-len.false ∙ c.packed-len.ensures.value ∙ ap (λ (p : ℕ). packed_length p (length codes)) c.size-q.ensures)), ext_get_or 0 c.loop-i.run (in_pairs codes) l (λ k h. c.loop-i.invariant k (omega arith)) ∙ sym (narrow_packed q codes (omega arith)))
+    (sym (eq-eqb _ _ (c.if-run-packed_len.false ∙ c.packed_len.ensures.value ∙ ap (λ (p : ℕ). packed_length p (length codes)) c.size-q.ensures)), ext_get_or 0 c.loop-i.run (in_pairs codes) l (λ k h. c.loop-i.invariant k (omega arith)) ∙ sym (narrow_packed q codes (omega arith)))

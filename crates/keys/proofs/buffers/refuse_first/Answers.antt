@@ -6,7 +6,7 @@ pub returns-in-Some : goal.returns-in-Some
 returns-in-Some c = c.loop-test.invariant ∙ first_some c.args.tests.now c.loop-test.test-index c.in-Some.refusal c.loop-test-test.true c.in-Some.is
 
 pub loop-test-preserved : goal.loop-test-preserved
-loop-test-preserved c = c.loop-test.invariant ∙ first_next c.args.tests.now c.loop-test.test-index c.loop-test-test.true c.in-default.is
+loop-test-preserved c = c.loop-test.invariant ∙ first_next c.args.tests.now c.loop-test.test-index c.loop-test-test.true c.in_default.is
 
 pub returns : goal.returns
 returns c = (c.loop-test.invariant ∙ first_none c.args.tests.now c.loop-test.test-index c.loop-test-test.false, tt)

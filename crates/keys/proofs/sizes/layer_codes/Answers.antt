@@ -2,11 +2,11 @@ use Rattle.std.proofs.Common.{◌≡◌, ℕ, ◌+◌, ◌*◌, ◌^◌, ◌≤�
 use Rattle.keys.specs.Shapes.{layer_codes}
 use Rattle.keys.proofs.sizes.layer_codes.Goals as goal
 
-pub overflow-add-result : goal.overflow-add-result
-overflow-add-result c = let b = mul-le-mul c.requires.0 c.requires.1 in omega arith
+pub overflow_add-result : goal.overflow_add-result
+overflow_add-result c = let b = mul-le-mul c.requires.0 c.requires.1 in omega arith
 
-pub overflow-mul-result-2 : goal.overflow-mul-result-2
-overflow-mul-result-2 c =
+pub overflow_mul-result-2 : goal.overflow_mul-result-2
+overflow_mul-result-2 c =
     let b = mul-le-mul c.requires.0 c.requires.1 in
     let s : c.pairs.result + c.args.v * c.args.o ≤ 42949672960 = omega arith in
     let m : c.args.o * (c.pairs.result + c.args.v * c.args.o) ≤ 65535 * 42949672960 = mul-le-mul c.requires.1 s in

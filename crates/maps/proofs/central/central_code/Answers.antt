@@ -4,12 +4,12 @@ use Rattle.fields.specs.Packing.{code_at}
 use Rattle.maps.specs.SecretKeys.{has_term, central}
 use Rattle.maps.proofs.central.central_code.Goals as goal
 
-pub returns-then-has-term : goal.returns-then-has-term
+pub returns-then-has_term : goal.returns-then-has_term
 unfolding central
-returns-then-has-term g c =
-    c.read-code.ensures ∙ ap (code_at (g.R.Ring.ring c.args.ring.now).q c.args.run.now) c.central-place.ensures
-    ∙ sym (cond-true (has_term c.args.shape.now c.args.f c.args.i c.args.j) _ _ (sym c.if-has-term.ensures))
+returns-then-has_term g c =
+    c.read_code.ensures ∙ ap (code_at (g.R.Ring.ring c.args.ring.now).q c.args.run.now) c.central_place.ensures
+    ∙ sym (cond-true (has_term c.args.shape.now c.args.f c.args.i c.args.j) _ _ (sym c.if-has_term.ensures))
 
-pub returns-else-has-term : goal.returns-else-has-term
+pub returns-else-has_term : goal.returns-else-has_term
 unfolding central
-returns-else-has-term g c = sym (cond-false (has_term c.args.shape.now c.args.f c.args.i c.args.j) _ _ (sym c.if-has-term.ensures))
+returns-else-has_term g c = sym (cond-false (has_term c.args.shape.now c.args.f c.args.i c.args.j) _ _ (sym c.if-has_term.ensures))

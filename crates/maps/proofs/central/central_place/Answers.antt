@@ -3,14 +3,14 @@ use Rattle.maps.specs.SecretKeys.{group_size, layer_of, central_place}
 use Rattle.maps.proofs.Groups.{in_layer_below}
 use Rattle.maps.proofs.central.central_place.Goals as goal
 
-pub overflow-add-result : goal.overflow-add-result
-overflow-add-result c = let m = mul-le-mul c.term-place.ensures.bound c.group-size-equations.ensures.bound in omega arith
+pub overflow_add-result : goal.overflow_add-result
+overflow_add-result c = let m = mul-le-mul c.term_place.ensures.bound c.group_size-equations.ensures.bound in omega arith
 
-pub overflow-add-result-2 : goal.overflow-add-result-2
-overflow-add-result-2 c =
-    let m = mul-le-mul c.term-place.ensures.bound c.group-size-equations.ensures.bound in
+pub overflow_add-result-2 : goal.overflow_add-result-2
+overflow_add-result-2 c =
+    let m = mul-le-mul c.term_place.ensures.bound c.group_size-equations.ensures.bound in
     let k = in_layer_below c.args.shape.now c.args.f c.requires.1.0 in
-    let e : c.group-size-equations.result ≡ group_size c.args.shape.now (layer_of c.args.shape.now c.args.f) = cc in
+    let e : c.group_size-equations.result ≡ group_size c.args.shape.now (layer_of c.args.shape.now c.args.f) = cc in
     omega arith
 
 pub returns : goal.returns

@@ -10,7 +10,7 @@ pub returns-then-a-eq1 : goal.returns-then-a-eq1
 unfolding terms_before
 returns-then-a-eq1 c =
     record {
-      value = c.terms-from.ensures.value ∙ sym (zero-add _) ∙ ap (terms_before c.args.shape.now c.args.l) (sym c.if-a-eq1.true);
+      value = c.terms_from.ensures.value ∙ sym (zero-add _) ∙ ap (terms_before c.args.shape.now c.args.l) (sym c.if-a-eq1.true);
       bound = omega arith;
     }
 
@@ -20,7 +20,7 @@ returns-else-a-eq1 c =
     let two : 2 ≡ c.args.a = omega arith in
     record {
       value =
-          ap₂ (λ (x y : ℕ). x + y) (c.terms-from-else-a-eq1.ensures.value ∙ sym (zero-add _)) c.terms-from-else-a-eq1-2.ensures.value
+          ap₂ (λ (x y : ℕ). x + y) (c.terms_from-else-a-eq1.ensures.value ∙ sym (zero-add _)) c.terms_from-else-a-eq1-2.ensures.value
           ∙ ap (terms_before c.args.shape.now c.args.l) two;
       bound = omega arith;
     }

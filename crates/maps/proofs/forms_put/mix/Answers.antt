@@ -3,8 +3,8 @@ use Rattle.matrices.specs.Arrays.{entry}
 use Rattle.maps.proofs.Publishing.{packed_more, mixed_next}
 use Rattle.maps.proofs.forms_put.mix.Goals as goal
 
-pub mix-row-requires : goal.mix-row-requires
-mix-row-requires g c =
+pub mix_row-requires : goal.mix_row-requires
+mix_row-requires g c =
     let q = (g.R.Ring.ring c.args.ring.now).q in
     let m = c.args.m in
     let t = c.loop-t.t in
@@ -16,4 +16,4 @@ mix-row-requires g c =
 
 pub loop-t-preserved : goal.loop-t-preserved
 loop-t-preserved g c =
-    mixed_next (g.R.Ring.ring c.args.ring.now) c.args.m (entry c.args.mask.now c.args.m) c.loop-t.t c.args.public.now c.loop-t.public c.mix-row.new.public c.loop-t.invariant c.mix-row.ensures
+    mixed_next (g.R.Ring.ring c.args.ring.now) c.args.m (entry c.args.mask.now c.args.m) c.loop-t.t c.args.public.now c.loop-t.public c.mix_row.new.public c.loop-t.invariant c.mix_row.ensures

@@ -13,6 +13,6 @@ returns g c =
     let within : byte_at q k < length run = let b = byte_within q k (k + 1) (omega arith) in let r = c.requires.1 in omega arith in
     let small : (code < 16) ⊎ (16 < q) = elim (cases_lt 16 q) [ inl h ↦ inr h | inr h ↦ inl (let l = c.requires.0 in omega arith) ] in
     record {
-      here = ap (λ (xs : List ℕ). code_at q xs k) c.write-code.ensures ∙ put_there q run k code within small;
-      other = λ j ne. ap (λ (xs : List ℕ). code_at q xs j) c.write-code.ensures ∙ put_other q run k j code ne;
+      here = ap (λ (xs : List ℕ). code_at q xs k) c.write_code.ensures ∙ put_there q run k code within small;
+      other = λ j ne. ap (λ (xs : List ℕ). code_at q xs j) c.write_code.ensures ∙ put_other q run k j code ne;
     }

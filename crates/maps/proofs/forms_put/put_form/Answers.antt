@@ -11,14 +11,14 @@ pub loop-p-init : goal.loop-p-init
 loop-p-init g c =
     (omega arith, omega arith, omega arith, (λ h. h), sym (pair_first c.args.n), form_none _ c.args.n c.args.m c.args.f _ c.requires.sizes.1.1.1 c.args.public.now)
 
-pub folded-code-requires : goal.folded-code-requires
-folded-code-requires g c =
+pub folded_code-requires : goal.folded_code-requires
+folded_code-requires g c =
     let v = c.loop-p.invariant in
     let w = live c.args.n c.loop-p.i c.loop-p.j c.loop-p.p v.0 v.1 v.2 v.3 v.4 c.loop-p-test.true in
     (c.requires.lengths.0, (v.0, w.1))
 
-pub put-code-requires : goal.put-code-requires
-put-code-requires g c =
+pub put_code-requires : goal.put_code-requires
+put_code-requires g c =
     let R = g.R.Ring.ring c.args.ring.now in
     let L = g.met.R.Ring.laws c.args.ring.now in
     let v = c.loop-p.invariant in
@@ -37,8 +37,8 @@ loop-p-preserved g c =
     let j = c.loop-p.j in
     let p = c.loop-p.p in
     let w = live n i j p v.0 v.1 v.2 v.3 v.4 c.loop-p-test.true in
-    let put : CodePut R.q c.loop-p.public c.put-code.new.run (p * c.args.m + c.args.f) (A i j) = subst (λ (x : ℕ). CodePut R.q c.loop-p.public c.put-code.new.run (p * c.args.m + c.args.f) x) c.folded_code.ensures c.put-code.ensures in
-    let F = form_next R.q n c.args.m c.args.f A c.requires.sizes.1.1.1 p i j c.args.public.now c.loop-p.public c.put-code.new.run v.4 v.0 w.1 v.5 put in
+    let put : CodePut R.q c.loop-p.public c.put_code.new.run (p * c.args.m + c.args.f) (A i j) = subst (λ (x : ℕ). CodePut R.q c.loop-p.public c.put_code.new.run (p * c.args.m + c.args.f) x) c.folded_code.ensures c.put_code.ensures in
+    let F = form_next R.q n c.args.m c.args.f A c.requires.sizes.1.1.1 p i j c.args.public.now c.loop-p.public c.put_code.new.run v.4 v.0 w.1 v.5 put in
     elim c.if-j-n.branch [
       | then-j-n x ↦
           let turn = pair_turn n i j v.0 x.if-j-n.true in

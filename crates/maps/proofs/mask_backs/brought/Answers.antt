@@ -6,7 +6,7 @@ use Rattle.maps.proofs.MaskRows.{dot_more}
 use Rattle.maps.proofs.mask_backs.brought.Goals as goal
 
 pub loop-j-preserved : goal.loop-j-preserved
-loop-j-preserved g c = dot_more (g.R.Ring.ring c.args.ring.now) _ _ c.loop-j.j c.loop-j.s c.sum-s.result c.product.result c.back-code-factor.result _ c.sum-s.ensures c.loop-j.invariant c.product.ensures c.back-code-factor.ensures refl
+loop-j-preserved g c = dot_more (g.R.Ring.ring c.args.ring.now) _ _ c.loop-j.j c.loop-j.s c.sum-s.result c.product.result c.back_code-factor.result _ c.sum-s.ensures c.loop-j.invariant c.product.ensures c.back_code-factor.ensures refl
 
 pub returns : goal.returns
 unfolding applied

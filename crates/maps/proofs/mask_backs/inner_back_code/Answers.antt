@@ -14,11 +14,11 @@ returns-then-j-v1 g c = t_left _ _ _ _ _ _ _ c.if-i-j.false c.if-i-v1.true c.if-
 
 pub returns-then-j-v2 : goal.returns-then-j-v2
 unfolding inner_inverse negated
-returns-then-j-v2 g c = c.negative.ensures ∙ ap (g.R.Ring.ring c.args.ring.now).neg c.first-code.ensures ∙ t_first _ _ _ _ _ _ _ c.if-i-v1.true c.if-j-v1.false c.if-j-v2.true
+returns-then-j-v2 g c = c.negative.ensures ∙ ap (g.R.Ring.ring c.args.ring.now).neg c.first_code.ensures ∙ t_first _ _ _ _ _ _ _ c.if-i-v1.true c.if-j-v1.false c.if-j-v2.true
 
 pub returns-else-j-v2 : goal.returns-else-j-v2
 unfolding inner_inverse
-returns-else-j-v2 g c = c.fourth-code.ensures ∙ t_second _ _ _ _ _ _ _ c.if-i-v1.true c.if-j-v2.false
+returns-else-j-v2 g c = c.fourth_code.ensures ∙ t_second _ _ _ _ _ _ _ c.if-i-v1.true c.if-j-v2.false
 
 pub returns-then-j-v2-2 : goal.returns-then-j-v2-2
 unfolding inner_inverse
@@ -26,4 +26,4 @@ returns-then-j-v2-2 g c = t_zero _ _ _ _ _ _ _ c.if-i-j.false c.if-i-v1.false c.
 
 pub returns-else-j-v2-2 : goal.returns-else-j-v2-2
 unfolding inner_inverse negated
-returns-else-j-v2-2 g c = c.negative-else-j-v2-2.ensures ∙ ap (g.R.Ring.ring c.args.ring.now).neg c.third-code.ensures ∙ t_third _ _ _ _ _ _ _ c.if-i-v1.false (omega arith) (omega arith)
+returns-else-j-v2-2 g c = c.negative-else-j-v2-2.ensures ∙ ap (g.R.Ring.ring c.args.ring.now).neg c.third_code.ensures ∙ t_third _ _ _ _ _ _ _ c.if-i-v1.false (omega arith) (omega arith)

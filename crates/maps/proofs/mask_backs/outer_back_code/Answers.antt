@@ -14,4 +14,4 @@ returns-then-f-o1 g c = s_zero _ _ _ _ c.if-e-f.false c.if-f-o1.either
 
 pub returns-else-f-o1 : goal.returns-else-f-o1
 unfolding outer_inverse negated
-returns-else-f-o1 g c = c.negative.ensures ∙ ap (g.R.Ring.ring c.args.ring.now).neg c.block-code.ensures ∙ s_block _ _ _ _ (omega arith) (omega arith)
+returns-else-f-o1 g c = c.negative.ensures ∙ ap (g.R.Ring.ring c.args.ring.now).neg c.block_code.ensures ∙ s_block _ _ _ _ (omega arith) (omega arith)

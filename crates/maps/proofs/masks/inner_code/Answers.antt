@@ -13,11 +13,11 @@ returns-then-j-v1 g c = t_left _ _ _ _ _ _ _ c.if-i-j.false c.if-i-v1.true c.if-
 
 pub returns-then-j-v2 : goal.returns-then-j-v2
 unfolding inner_mask
-returns-then-j-v2 g c = c.first-code.ensures ∙ t_first _ _ _ _ _ _ _ c.if-i-v1.true c.if-j-v1.false c.if-j-v2.true
+returns-then-j-v2 g c = c.first_code.ensures ∙ t_first _ _ _ _ _ _ _ c.if-i-v1.true c.if-j-v1.false c.if-j-v2.true
 
 pub returns-else-j-v2 : goal.returns-else-j-v2
 unfolding inner_mask
-returns-else-j-v2 g c = c.second-code.ensures ∙ t_second _ _ _ _ _ _ _ c.if-i-v1.true c.if-j-v2.false
+returns-else-j-v2 g c = c.second_code.ensures ∙ t_second _ _ _ _ _ _ _ c.if-i-v1.true c.if-j-v2.false
 
 pub returns-then-j-v2-2 : goal.returns-then-j-v2-2
 unfolding inner_mask
@@ -25,4 +25,4 @@ returns-then-j-v2-2 g c = t_zero _ _ _ _ _ _ _ c.if-i-j.false c.if-i-v1.false c.
 
 pub returns-else-j-v2-2 : goal.returns-else-j-v2-2
 unfolding inner_mask
-returns-else-j-v2-2 g c = c.third-code.ensures ∙ t_third _ _ _ _ _ _ _ c.if-i-v1.false (omega arith) (omega arith)
+returns-else-j-v2-2 g c = c.third_code.ensures ∙ t_third _ _ _ _ _ _ _ c.if-i-v1.false (omega arith) (omega arith)

@@ -30,6 +30,6 @@ returns g c =
     let head_is : c.args.head.now ≡ head_of key = c.requires.heads.0 in
     let h = c.args.head.now.len in
     let h_is : h ≡ 4 = ap (λ (x : Head). x.len) head_is in
-    let front : c.copy-from-slice.new.self ≡ take (h - 0) key = c.copy-from-slice.ensures.after in
-    let lf : length c.copy-from-slice.new.self ≡ h = ap length front ∙ length-take-le (h - 0) key (let l = c.requires.heads.1.1 in omega arith) ∙ omega arith in
-    published R key (take (length key - h) (drop h key)) c.args.public.now c.copy-from-slice.new.self c.write-run.new.public c.args.head.now.shape h (h - 0) h_is lf front (omega arith) (take_rest key h ∙ ap (λ (n : ℕ). drop n key) h_is) (ap (λ (x : Head). x.shape) head_is) c.write-run.ensures
+    let front : c.copy_from_slice.new.self ≡ take (h - 0) key = c.copy_from_slice.ensures.after in
+    let lf : length c.copy_from_slice.new.self ≡ h = ap length front ∙ length-take-le (h - 0) key (let l = c.requires.heads.1.1 in omega arith) ∙ omega arith in
+    published R key (take (length key - h) (drop h key)) c.args.public.now c.copy_from_slice.new.self c.write_run.new.public c.args.head.now.shape h (h - 0) h_is lf front (omega arith) (take_rest key h ∙ ap (λ (n : ℕ). drop n key) h_is) (ap (λ (x : Head). x.shape) head_is) c.write_run.ensures

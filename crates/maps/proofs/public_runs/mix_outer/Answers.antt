@@ -25,7 +25,7 @@ mix-requires g c =
     let part : length (take (m * m - 0) c.args.space.now) ≡ m * m - 0 = length-take-le (m * m - 0) c.args.space.now (omega arith) in
     let count : n * (n + 1) / 2 * m ≡ pairs (variables s) * equations s = ap₂ (λ (x y : ℕ). x * y) (pairs_half n ∙ ap pairs n_is) m_is in
     let long : length c.args.public.now ≡ packed_length q (n * (n + 1) / 2 * m) = c.requires.room ∙ sym (ap (packed_length q) count) in
-    record { sizes = (omega arith, omega arith); lengths = (c.fill-outer.auto.matrix ∙ part ∙ omega arith, omega arith) }
+    record { sizes = (omega arith, omega arith); lengths = (c.fill_outer.auto.matrix ∙ part ∙ omega arith, omega arith) }
 
 pub returns : goal.returns
 returns g c =
@@ -36,8 +36,8 @@ returns g c =
     let n_is : n ≡ variables s = c.variables-n.ensures.value in
     let m_is : m ≡ equations s = c.equations-m.ensures.value in
     let p_is : n * (n + 1) / 2 ≡ pairs (variables s) = pairs_half n ∙ ap pairs n_is in
-    let M : Mixed R m (n * (n + 1) / 2) (entry c.fill-outer.new.matrix m) c.args.public.now c.mix.new.public = c.mix.ensures in
-    let M' : Mixed R (equations s) (pairs (variables s)) (entry c.fill-outer.new.matrix (equations s)) c.args.public.now c.mix.new.public =
-    subst (λ (p : ℕ). Mixed R (equations s) p (entry c.fill-outer.new.matrix (equations s)) c.args.public.now c.mix.new.public) p_is
-    (subst (λ (k : ℕ). Mixed R k (n * (n + 1) / 2) (entry c.fill-outer.new.matrix k) c.args.public.now c.mix.new.public) m_is M) in
-    mixed_like R (equations s) (pairs (variables s)) (entry c.fill-outer.new.matrix (equations s)) (outer_mask R c.args.run.now s) c.args.public.now c.mix.new.public c.fill-outer.ensures M'
+    let M : Mixed R m (n * (n + 1) / 2) (entry c.fill_outer.new.matrix m) c.args.public.now c.mix.new.public = c.mix.ensures in
+    let M' : Mixed R (equations s) (pairs (variables s)) (entry c.fill_outer.new.matrix (equations s)) c.args.public.now c.mix.new.public =
+    subst (λ (p : ℕ). Mixed R (equations s) p (entry c.fill_outer.new.matrix (equations s)) c.args.public.now c.mix.new.public) p_is
+    (subst (λ (k : ℕ). Mixed R k (n * (n + 1) / 2) (entry c.fill_outer.new.matrix k) c.args.public.now c.mix.new.public) m_is M) in
+    mixed_like R (equations s) (pairs (variables s)) (entry c.fill_outer.new.matrix (equations s)) (outer_mask R c.args.run.now s) c.args.public.now c.mix.new.public c.fill_outer.ensures M'

@@ -21,7 +21,7 @@ returns g c =
     let codes_is : c.public_codes_lem.result ≡ public_codes (shape_of key) = c.public_codes_lem.ensures.value ∙ ap (λ (h : Head). public_codes h.shape) head_is in
     let none : List (Option Told) = [] in
     let same =
-    also (codes_same q Key key _ 4 (public_codes (shape_of key)) _ _ c.foreign-code.ensures (take_rest key _ ∙ ap (λ (h : Head). drop h.len key) head_is) codes_is)
-    (also (codes_same q Digest digest digest 0 (equations (shape_of key)) _ _ c.foreign-code-2.ensures refl m_is)
-    (also (codes_same q Signature signature signature 0 (variables (shape_of key)) _ _ c.foreign-code-3.ensures refl n_is) (refl {a = none}))) in
-    subst (λ (ts : List (Option Told)). Answers (first ts) c.refuse-first.result (λ _. Unit {0})) same c.refuse-first.ensures
+    also (codes_same q Key key _ 4 (public_codes (shape_of key)) _ _ c.foreign_code.ensures (take_rest key _ ∙ ap (λ (h : Head). drop h.len key) head_is) codes_is)
+    (also (codes_same q Digest digest digest 0 (equations (shape_of key)) _ _ c.foreign_code-2.ensures refl m_is)
+    (also (codes_same q Signature signature signature 0 (variables (shape_of key)) _ _ c.foreign_code-3.ensures refl n_is) (refl {a = none}))) in
+    subst (λ (ts : List (Option Told)). Answers (first ts) c.refuse_first.result (λ _. Unit {0})) same c.refuse_first.ensures

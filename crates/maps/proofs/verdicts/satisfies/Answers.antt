@@ -15,6 +15,6 @@ returns-then-evaluate g c =
     let long_v : length c.zeros-values.result ≡ 1024 = ap length c.zeros-values.ensures ∙ length-replicate {A = ℕ} 1024 0 in
     let n_is : length (take (n - 0) c.zeros-x.result) ≡ n = length-take-le (n - 0) c.zeros-x.result (omega arith) ∙ omega arith in
     let m_is : length (take (m - 0) c.zeros-values.result) ≡ m = length-take-le (m - 0) c.zeros-values.result (omega arith) ∙ omega arith in
-    let x_is : c.read-codes.new.codes ≡ codes_from R.q c.args.signature.now 0 n = c.read-codes.ensures ∙ ap (codes_from R.q c.args.signature.now 0) n_is in
-    let v_is : c.evaluate.new.values ≡ map (form_value R c.args.run.now c.read-codes.new.codes m) (range_with_len 0 m) = c.evaluate.ensures.values c.if-evaluate.true ∙ ap (λ (k : ℕ). map (form_value R c.args.run.now c.read-codes.new.codes k) (range_with_len 0 k)) m_is in
-    satisfied R c.args.run.now c.args.digest.now c.args.signature.now n m c.read-codes.new.codes c.evaluate.new.values c.begins-with.result x_is v_is c.begins-with.ensures
+    let x_is : c.read_codes.new.codes ≡ codes_from R.q c.args.signature.now 0 n = c.read_codes.ensures ∙ ap (codes_from R.q c.args.signature.now 0) n_is in
+    let v_is : c.evaluate.new.values ≡ map (form_value R c.args.run.now c.read_codes.new.codes m) (range_with_len 0 m) = c.evaluate.ensures.values c.if-evaluate.true ∙ ap (λ (k : ℕ). map (form_value R c.args.run.now c.read_codes.new.codes k) (range_with_len 0 k)) m_is in
+    satisfied R c.args.run.now c.args.digest.now c.args.signature.now n m c.read_codes.new.codes c.evaluate.new.values c.begins_with.result x_is v_is c.begins_with.ensures

@@ -16,8 +16,8 @@ pub returns : goal.returns
 returns g c =
     let R = g.R.Ring.ring c.args.ring.now in
     let key = c.args.key.now in
-    let head_is : c.in-ok-head.head ≡ head_of key = c.in-ok-head.ensures.1.0 in
+    let head_is : c.in_ok-head.head ≡ head_of key = c.in_ok-head.ensures.1.0 in
     let n_is : c.variables-n.result ≡ variables (shape_of key) = c.variables-n.ensures.value ∙ ap (λ (h : Head). variables h.shape) head_is in
     let m_is : c.equations-m.result ≡ equations (shape_of key) = c.equations-m.ensures.value ∙ ap (λ (h : Head). equations h.shape) head_is in
-    let run_is = take_rest key c.in-ok-head.head.len ∙ ap (λ (h : Head). drop h.len key) head_is in
-    (c.in-ok-head.ensures.0, moved R _ (drop 4 key) _ _ _ _ c.args.digest.now c.args.signature.now c.satisfies.result run_is n_is m_is c.satisfies.ensures)
+    let run_is = take_rest key c.in_ok-head.head.len ∙ ap (λ (h : Head). drop h.len key) head_is in
+    (c.in_ok-head.ensures.0, moved R _ (drop 4 key) _ _ _ _ c.args.digest.now c.args.signature.now c.satisfies.result run_is n_is m_is c.satisfies.ensures)

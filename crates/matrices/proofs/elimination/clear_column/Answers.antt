@@ -7,8 +7,8 @@ use Rattle.matrices.proofs.elimination.clear_column.Goals.{then-row-column, else
 pub bounds-rows-row : goal.bounds-rows-row
 bounds-rows-row g c = let l = row_below c.loop-row.row c.args.order c.args.width c.loop-row-test.true in omega arith
 
-pub add-row-requires : goal.add-row-requires
-add-row-requires g c =
+pub add_row-requires : goal.add_row-requires
+add_row-requires g c =
     let l = row_below c.loop-row.row c.args.order c.args.width c.loop-row-test.true in
     let k = row_below c.args.column c.args.order c.args.width c.requires.1.0 in
     (omega arith, (omega arith, rows_apart c.loop-row.row c.args.column c.args.width c.if-row-column.true))

@@ -13,15 +13,15 @@ loop-column-init g c =
     let w = c.args.order + c.args.right in
     (c.requires.1.1, kept_none R L c.args.order w (entry c.args.rows.now w) (λ i j. c.requires.1.1 (i * w + j)))
 
-pub returns-in-default : goal.returns-in-default
-returns-in-default g c =
+pub returns-in_default : goal.returns-in_default
+returns-in_default g c =
     let R = g.F.Ring.ring c.args.field.now in
     let L = g.met.F.Ring.laws c.args.field.now in
     let w = c.args.order + c.args.right in
-    (dependent R L c.args.order c.args.right c.loop-column.column (entry c.args.rows.now w) (entry c.loop-column.rows w) c.loop-column-test.true c.loop-column.invariant.1 c.in-default.ensures, c.loop-column.invariant.0)
+    (dependent R L c.args.order c.args.right c.loop-column.column (entry c.args.rows.now w) (entry c.loop-column.rows w) c.loop-column-test.true c.loop-column.invariant.1 c.in_default.ensures, c.loop-column.invariant.0)
 
-pub swap-rows-requires : goal.swap-rows-requires
-swap-rows-requires g c =
+pub swap_rows-requires : goal.swap_rows-requires
+swap_rows-requires g c =
     let w = c.args.order + c.args.right in
     let k = c.loop-column.column in
     let r = c.in-Some.found.row in
@@ -29,10 +29,10 @@ swap-rows-requires g c =
     let b = row_below r c.args.order w c.in-Some.ensures.high in
     (omega arith, (omega arith, elim (ℕ_discrete k r) [ yes e ↦ inl (ap (λ t. t * w) e) | no e ↦ inr (rows_apart k r w e) ]))
 
-pub scale-row-requires : goal.scale-row-requires
-scale-row-requires g c =
+pub scale_row-requires : goal.scale_row-requires
+scale_row-requires g c =
     let a = row_below c.loop-column.column c.args.order (c.args.order + c.args.right) c.loop-column-test.true in
-    let k = c.swap-rows.auto.rows in
+    let k = c.swap_rows.auto.rows in
     omega arith
 
 pub loop-column-preserved : goal.loop-column-preserved
@@ -41,7 +41,7 @@ loop-column-preserved g c =
     let L = g.met.F.Ring.laws c.args.field.now in
     let n = c.args.order in
     let w = n + c.args.right in
-    column_done R L n w c.loop-column.column c.args.rows.now c.loop-column.rows c.swap-rows.new.rows c.scale-row.new.rows c.clear-column.new.rows c.in-Some.found c.loop-column-test.true (omega arith) c.loop-column.invariant.0 c.loop-column.invariant.1 c.in-Some.ensures c.swap-rows.ensures c.scale-row.ensures c.clear-column.ensures
+    column_done R L n w c.loop-column.column c.args.rows.now c.loop-column.rows c.swap_rows.new.rows c.scale_row.new.rows c.clear_column.new.rows c.in-Some.found c.loop-column-test.true (omega arith) c.loop-column.invariant.0 c.loop-column.invariant.1 c.in-Some.ensures c.swap_rows.ensures c.scale_row.ensures c.clear_column.ensures
 
 pub returns : goal.returns
 returns g c =

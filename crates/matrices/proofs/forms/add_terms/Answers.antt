@@ -15,8 +15,8 @@ loop-j-init g c =
     let z : pairs_before (length x) i ≡ pairs_before (length x) i + (i - i) = omega arith in
     (c.requires.row_len, c.requires.place ∙ ap (λ (t : ℕ). t * m) z, λ e h. sum_start R L _ i (term_of R c.args.run.now x m e i) (c.requires.codes e) (λ k l. term_below R L c.args.run.now x m e i k l))
 
-pub overflow-add-at : goal.overflow-add-at
-overflow-add-at g c =
+pub overflow_add-at : goal.overflow_add-at
+overflow_add-at g c =
     let i = c.args.i in
     let j = c.loop-j.j in
     let hi : i ≤ length c.args.x.now = omega arith in
@@ -35,12 +35,12 @@ loop-j-preserved g c =
     let j = c.loop-j.j in
     let m = length c.loop-j.values in
     let h : i ≤ j = omega arith in
-    let row_is : length c.read-codes.new.codes ≡ m = omega arith in
-    let new_is : length c.add-multiple.new.acc ≡ m = omega arith in
-    let row : c.read-codes.new.codes ≡ codes_from R.q run c.loop-j.at m = c.read-codes.ensures ∙ ap (codes_from R.q run c.loop-j.at) c.loop-j.invariant.0 in (
+    let row_is : length c.read_codes.new.codes ≡ m = omega arith in
+    let new_is : length c.add_multiple.new.acc ≡ m = omega arith in
+    let row : c.read_codes.new.codes ≡ codes_from R.q run c.loop-j.at m = c.read_codes.ensures ∙ ap (codes_from R.q run c.loop-j.at) c.loop-j.invariant.0 in (
       row_is ∙ sym new_is,
       rw (new_is, row_is) (place_next (length x) i j c.loop-j.at m h c.loop-j.invariant.1),
-      λ e l. rw (new_is, add-one) (term_step R L run x i j c.loop-j.at c.product.result c.args.values.now c.loop-j.values c.read-codes.new.codes c.add-multiple.new.acc h c.loop-j.invariant.1 c.product.ensures row c.add-multiple.ensures c.requires.codes c.loop-j.invariant.2 e (omega arith)),
+      λ e l. rw (new_is, add-one) (term_step R L run x i j c.loop-j.at c.product.result c.args.values.now c.loop-j.values c.read_codes.new.codes c.add_multiple.new.acc h c.loop-j.invariant.1 c.product.ensures row c.add_multiple.ensures c.requires.codes c.loop-j.invariant.2 e (omega arith)),
     )
 
 pub returns : goal.returns

@@ -17,8 +17,8 @@ loop-i-init g c =
     let filled : c.fill.new.self ≡ replicate m 0 = c.fill.ensures.after (λ y e. e) in
     (omega arith, area_none _ _, λ e h. ap (λ (xs : List ℕ). get_or xs e 0) filled ∙ get_or-replicate m e 0 0 (omega arith))
 
-pub add-terms-requires : goal.add-terms-requires
-add-terms-requires g c =
+pub add_terms-requires : goal.add_terms-requires
+add_terms-requires g c =
     let R = g.R.Ring.ring c.args.ring.now in
     let L = g.met.R.Ring.laws c.args.ring.now in
     record {
@@ -33,8 +33,8 @@ add-terms-requires g c =
           ];
     }
 
-pub overflow-add-at : goal.overflow-add-at
-overflow-add-at g c =
+pub overflow_add-at : goal.overflow_add-at
+overflow_add-at g c =
     let n = length c.args.x.now in
     let i = c.loop-i.i in
     let m = length c.loop-i.values in
@@ -44,7 +44,7 @@ overflow-add-at g c =
     let hd : n - i ≤ n = omega arith in
     let b = place_small n m i (n - i) hi hn hm hd in
     let e = native.Mathlib.Nat.add_mul (pairs_before n i) (n - i) m in
-    let s : length c.add-terms.new.values ≡ m = omega arith in
+    let s : length c.add_terms.new.values ≡ m = omega arith in
     rw s (omega arith)
 
 pub loop-i-preserved : goal.loop-i-preserved
@@ -52,10 +52,10 @@ loop-i-preserved g c =
     let R = g.R.Ring.ring c.args.ring.now in
     let i = c.loop-i.i in
     let m = length c.loop-i.values in
-    let s : length c.add-terms.new.values ≡ m = omega arith in (
+    let s : length c.add_terms.new.values ≡ m = omega arith in (
       omega arith,
       rw (s, add-one) (area_next (length c.args.x.now) i c.loop-i.at m c.loop-i.invariant.1),
-      λ e l. rw (s, add-one) (c.add-terms.ensures e (omega arith) ∙ ap (λ (t : ℕ). R.add t (terms_of R c.args.run.now c.args.x.now m e i)) (c.loop-i.invariant.2 e (omega arith))),
+      λ e l. rw (s, add-one) (c.add_terms.ensures e (omega arith) ∙ ap (λ (t : ℕ). R.add t (terms_of R c.args.run.now c.args.x.now m e i)) (c.loop-i.invariant.2 e (omega arith))),
     )
 
 pub returns : goal.returns

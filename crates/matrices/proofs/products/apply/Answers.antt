@@ -6,8 +6,8 @@ use Rattle.matrices.proofs.RowWrites.{row_below}
 use Rattle.matrices.proofs.RowSums.{dot_row}
 use Rattle.matrices.proofs.products.apply.Goals as goal
 
-pub slice-bounds-dot-end : goal.slice-bounds-dot-end
-slice-bounds-dot-end g c =
+pub slice_bounds-dot-end : goal.slice_bounds-dot-end
+slice_bounds-dot-end g c =
     let e = true-eqb _ _ c.if-not-fills.ensures in
     let l = row_below c.loop-i.i (length c.args.res.now) (length c.args.vector.now) c.loop-i-test.true in
     omega arith

@@ -4,8 +4,8 @@ use Rattle.matrices.proofs.RowSums.{combine_more, combine_skip}
 use Rattle.matrices.proofs.products.combine.Goals as goal
 use Rattle.matrices.proofs.products.combine.Goals.{then-factor-ne0, else-factor-ne0}
 
-pub slice-bounds-add-multiple-end : goal.slice-bounds-add-multiple-end
-slice-bounds-add-multiple-end g c =
+pub slice_bounds-add_multiple-end : goal.slice_bounds-add_multiple-end
+slice_bounds-add_multiple-end g c =
     let n = length c.args.factors.now in
     let w = length c.fill.new.self in
     let l = row_below c.loop-k.k n w c.loop-k-test.true in
@@ -25,6 +25,6 @@ loop-k-preserved g c j l =
     let e : w ≡ length c.args.row.now = omega arith in
     let m = ap (λ t. n * t) e in
     elim c.if-factor-ne0.branch [
-      | then-factor-ne0 p ↦ combine_more R c.loop-k.row c.if-factor-ne0.row b fs k w w j refl (p.row_is ∙ p.add-multiple.ensures) (omega arith) (omega arith) l (c.loop-k.invariant j l)
+      | then-factor-ne0 p ↦ combine_more R c.loop-k.row c.if-factor-ne0.row b fs k w w j refl (p.row_is ∙ p.add_multiple.ensures) (omega arith) (omega arith) l (c.loop-k.invariant j l)
       | else-factor-ne0 p ↦ ap (λ xs. get_or xs j 0) p.row_is ∙ combine_skip R (g.met.R.Ring.laws c.args.ring.now) b fs (get_or c.loop-k.row j 0) k w j p.if-factor-ne0.false (c.loop-k.invariant j l)
     ]

@@ -3,26 +3,26 @@ use Rattle.matrices.proofs.RowWrites.{row_below}
 use Rattle.matrices.proofs.RowSums.{multiply_more}
 use Rattle.matrices.proofs.products.multiply.Goals as goal
 
-pub overflow-add-factors : goal.overflow-add-factors
-overflow-add-factors g c =
+pub overflow_add-factors : goal.overflow_add-factors
+overflow_add-factors g c =
     let e = true-eqb _ _ c.if-not-fills.ensures in
     let l = row_below c.loop-i.i c.args.rows c.args.inner c.loop-i-test.true in
     omega arith
 
-pub slice-bounds-factors-end : goal.slice-bounds-factors-end
-slice-bounds-factors-end g c =
+pub slice_bounds-factors-end : goal.slice_bounds-factors-end
+slice_bounds-factors-end g c =
     let e = true-eqb _ _ c.if-not-fills.ensures in
     let l = row_below c.loop-i.i c.args.rows c.args.inner c.loop-i-test.true in
     omega arith
 
-pub overflow-add-i : goal.overflow-add-i
-overflow-add-i g c =
+pub overflow_add-i : goal.overflow_add-i
+overflow_add-i g c =
     let e = true-eqb _ _ c.if-not-fills-3.ensures in
     let l = row_below c.loop-i.i c.args.rows c.args.columns c.loop-i-test.true in
     omega arith
 
-pub slice-bounds-combine-end : goal.slice-bounds-combine-end
-slice-bounds-combine-end g c =
+pub slice_bounds-combine-end : goal.slice_bounds-combine-end
+slice_bounds-combine-end g c =
     let e = true-eqb _ _ c.if-not-fills-3.ensures in
     let l = row_below c.loop-i.i c.args.rows c.args.columns c.loop-i-test.true in
     omega arith

@@ -4,26 +4,26 @@ use Rattle.matrices.proofs.RowWrites.{row_below}
 use Rattle.matrices.proofs.RowSums.{product_more}
 use Rattle.matrices.proofs.products.multiply_transposed.Goals as goal
 
-pub overflow-mul-i : goal.overflow-mul-i
-overflow-mul-i g c =
+pub overflow_mul-i : goal.overflow_mul-i
+overflow_mul-i g c =
     let e = true-eqb _ _ c.if-not-fills-3.ensures in
     let l = row_below c.loop-i.i c.args.rows c.args.columns c.loop-i-test.true in
     omega arith
 
-pub overflow-mul-i-in-loop-i : goal.overflow-mul-i-in-loop-i
-overflow-mul-i-in-loop-i g c =
+pub overflow_mul-i-in-loop-i : goal.overflow_mul-i-in-loop-i
+overflow_mul-i-in-loop-i g c =
     let e = true-eqb _ _ c.if-not-fills-3.ensures in
     let l = row_below c.loop-i.i c.args.rows c.args.columns c.loop-i-test.true in
     omega arith
 
-pub overflow-add-i : goal.overflow-add-i
-overflow-add-i g c =
+pub overflow_add-i : goal.overflow_add-i
+overflow_add-i g c =
     let e = true-eqb _ _ c.if-not-fills-3.ensures in
     let l = row_below c.loop-i.i c.args.rows c.args.columns c.loop-i-test.true in
     omega arith
 
-pub slice-bounds-combine-end : goal.slice-bounds-combine-end
-slice-bounds-combine-end g c =
+pub slice_bounds-combine-end : goal.slice_bounds-combine-end
+slice_bounds-combine-end g c =
     let e = true-eqb _ _ c.if-not-fills-3.ensures in
     let l = row_below c.loop-i.i c.args.rows c.args.columns c.loop-i-test.true in
     omega arith
@@ -37,8 +37,8 @@ loop-i-preserved g c =
     let a = c.args.a.now in
     let eo = true-eqb _ _ c.if-not-fills-3.ensures in
     let lo = row_below i n m c.loop-i-test.true in
-    let len : length c.read-column.new.column ≡ k = omega arith in
-    (omega arith, product_more (g.R.Ring.ring c.args.ring.now) (λ r t. entry a n t r) c.read-column.new.column c.args.b.now c.loop-i.product c.combine.new.row i k m _ (omega arith) len (λ t s. c.read-column.ensures t (omega arith)) (omega arith) c.combine.auto.row c.combine.ensures c.loop-i.invariant.1)
+    let len : length c.read_column.new.column ≡ k = omega arith in
+    (omega arith, product_more (g.R.Ring.ring c.args.ring.now) (λ r t. entry a n t r) c.read_column.new.column c.args.b.now c.loop-i.product c.combine.new.row i k m _ (omega arith) len (λ t s. c.read_column.ensures t (omega arith)) (omega arith) c.combine.auto.row c.combine.ensures c.loop-i.invariant.1)
 
 pub returns : goal.returns
 returns g c =

@@ -5,25 +5,25 @@ use Rattle.matrices.proofs.Columns.{apart}
 use Rattle.matrices.proofs.Blocks.{augmented_codes, left_codes_lem, augmented_dependent, augmented_inverse}
 use Rattle.matrices.proofs.systems.invert.Goals as goal
 
-pub returns-in-default : goal.returns-in-default
-returns-in-default g c =
+pub returns-in_default : goal.returns-in_default
+returns-in_default g c =
     let n = c.args.order in
     record {
-      inverse = (λ F. too_wide (length c.args.rows.now) n n 18446744073709551616 (omega arith) (omega arith) c.in-default.ensures F.room.places, refl);
+      inverse = (λ F. too_wide (length c.args.rows.now) n n 18446744073709551616 (omega arith) (omega arith) c.in_default.ensures F.room.places, refl);
       rows = λ _. refl;
     }
 
-pub returns-in-default-eliminate : goal.returns-in-default-eliminate
-returns-in-default-eliminate g c =
+pub returns-in_default-eliminate : goal.returns-in_default-eliminate
+returns-in_default-eliminate g c =
     let R = g.F.Ring.ring c.args.field.now in
     let L = g.met.F.Ring.laws c.args.field.now in
     let n = c.args.order in
     let old = c.args.rows.now in
-    let rows = c.put-units.new.rows in
+    let rows = c.put_units.new.rows in
     let room : Room old n (length c.args.inverse.now) = search rules in
     let len : length rows ≡ n * (n + n) = omega arith in
     record {
-      inverse = (λ F. apart R rows n n (record { places = len; codes = augmented_codes R L old rows n c.put-units.ensures len F.codes }) c.in-default-eliminate.ensures.0, refl);
+      inverse = (λ F. apart R rows n n (record { places = len; codes = augmented_codes R L old rows n c.put_units.ensures len F.codes }) c.in_default-eliminate.ensures.0, refl);
       rows = λ h. absurd (h room);
     }
 
@@ -33,15 +33,15 @@ returns-in-Ok g c =
     let L = g.met.F.Ring.laws c.args.field.now in
     let n = c.args.order in
     let old = c.args.rows.now in
-    let rows = c.put-units.new.rows in
+    let rows = c.put_units.new.rows in
     let new = c.eliminate.new.rows in
-    let block = c.read-right.new.block in
+    let block = c.read_right.new.block in
     let room : Room old n (length c.args.inverse.now) = search rules in
     let len : length block ≡ n * n = omega arith in
     let codes = c.in-Some-eliminate.ensures.0.codes in
     let solved : Reduced R rows n n (Ok c.in-Ok.field-0) new = subst (λ r. Reduced R rows n n r new) c.in-Ok.is c.in-Some-eliminate.ensures.1 in
     record {
-      inverse = (record { room = room; codes = left_codes_lem R L old rows n c.put-units.ensures codes }, augmented_inverse R L old rows n c.put-units.ensures new block len codes solved c.read-right.ensures);
+      inverse = (record { room = room; codes = left_codes_lem R L old rows n c.put_units.ensures codes }, augmented_inverse R L old rows n c.put_units.ensures new block len codes solved c.read_right.ensures);
       rows = λ h. absurd (h room);
     }
 
@@ -51,12 +51,12 @@ returns-in-Err g c =
     let L = g.met.F.Ring.laws c.args.field.now in
     let n = c.args.order in
     let old = c.args.rows.now in
-    let rows = c.put-units.new.rows in
+    let rows = c.put_units.new.rows in
     let new = c.eliminate.new.rows in
     let room : Room old n (length c.args.inverse.now) = search rules in
     let codes = c.in-Some-eliminate.ensures.0.codes in
     let told : Reduced R rows n n (Err c.in-Err.fault) new = subst (λ r. Reduced R rows n n r new) c.in-Err.is c.in-Some-eliminate.ensures.1 in
     record {
-      inverse = (record { room = room; codes = left_codes_lem R L old rows n c.put-units.ensures codes }, (augmented_dependent R L old rows n c.put-units.ensures c.in-Err.fault.column told.0, refl));
+      inverse = (record { room = room; codes = left_codes_lem R L old rows n c.put_units.ensures codes }, (augmented_dependent R L old rows n c.put_units.ensures c.in-Err.fault.column told.0, refl));
       rows = λ h. absurd (h room);
     }

@@ -3,11 +3,11 @@ use Rattle.matrices.proofs.RowWrites.{row_below}
 use Rattle.matrices.proofs.Blocks.{augmented_more}
 use Rattle.matrices.proofs.systems.put_units.Goals as goal
 
-pub put-unit-requires : goal.put-unit-requires
-put-unit-requires c =
+pub put_unit-requires : goal.put_unit-requires
+put_unit-requires c =
     let n = c.args.order in
     let b = row_below c.loop-i.i n (n + n) c.loop-i-test.true in
     (omega arith, c.loop-i-test.true)
 
 pub loop-i-preserved : goal.loop-i-preserved
-loop-i-preserved c = augmented_more c.args.rows.now c.loop-i.rows c.put-unit.new.rows c.args.order c.loop-i.i c.loop-i.invariant c.put-unit.ensures
+loop-i-preserved c = augmented_more c.args.rows.now c.loop-i.rows c.put_unit.new.rows c.args.order c.loop-i.i c.loop-i.invariant c.put_unit.ensures

@@ -4,11 +4,11 @@ use Rattle.matrices.proofs.RowWrites.{row_below}
 use Rattle.matrices.proofs.Blocks.{right_more}
 use Rattle.matrices.proofs.systems.read_right.Goals as goal
 
-pub slice-bounds-put-row-end : goal.slice-bounds-put-row-end
-slice-bounds-put-row-end c = let l = row_below c.loop-i.i c.args.order (c.args.order + c.args.order) c.loop-i-test.true in omega arith
+pub slice_bounds-put_row-end : goal.slice_bounds-put_row-end
+slice_bounds-put_row-end c = let l = row_below c.loop-i.i c.args.order (c.args.order + c.args.order) c.loop-i-test.true in omega arith
 
-pub put-row-requires : goal.put-row-requires
-put-row-requires c =
+pub put_row-requires : goal.put_row-requires
+put_row-requires c =
     let i = c.loop-i.i in
     let n = c.args.order in
     let a = row_below i n n c.loop-i-test.true in
@@ -21,4 +21,4 @@ loop-i-preserved c =
     let i = c.loop-i.i in
     let n = c.args.order in
     let b = row_below i n (n + n) c.loop-i-test.true in
-    right_more c.args.rows.now c.loop-i.block c.put-row.new.rows n i (omega arith) c.loop-i.invariant c.put-row.ensures
+    right_more c.args.rows.now c.loop-i.block c.put_row.new.rows n i (omega arith) c.loop-i.invariant c.put_row.ensures

@@ -12,10 +12,10 @@ over R S k o w r n l e v = subst (λ (T : Ring). PublicMade T k o w r n l) (sym 
 
 pub returns-then-named : goal.returns-then-named
 returns-then-named c =
-    over _ _ c.args.key.now c.args.public.now c.args.workspace.now c.public-key-then-named.result c.public-key-then-named.new.public c.public-key-then-named.new.workspace
-    (ap ring_named (sym c.first-byte-named.ensures ∙ c.if-named.true)) c.public-key-then-named.ensures
+    over _ _ c.args.key.now c.args.public.now c.args.workspace.now c.public_key-then-named.result c.public_key-then-named.new.public c.public_key-then-named.new.workspace
+    (ap ring_named (sym c.first_byte-named.ensures ∙ c.if-named.true)) c.public_key-then-named.ensures
 
 pub returns : goal.returns
 returns c =
-    over _ _ c.args.key.now c.args.public.now c.args.workspace.now c.public-key-2.result c.public-key-2.new.public c.public-key-2.new.workspace
-    (ap ring_named (sym c.first-byte-named.ensures) ∙ other c.first-byte-named.result c.if-named-eq1.false c.if-named-eq3.false c.if-named-eq5.false c.if-named-eq15.false c.if-named.false) c.public-key-2.ensures
+    over _ _ c.args.key.now c.args.public.now c.args.workspace.now c.public_key-2.result c.public_key-2.new.public c.public_key-2.new.workspace
+    (ap ring_named (sym c.first_byte-named.ensures) ∙ other c.first_byte-named.result c.if-named-eq1.false c.if-named-eq3.false c.if-named-eq5.false c.if-named-eq15.false c.if-named.false) c.public_key-2.ensures

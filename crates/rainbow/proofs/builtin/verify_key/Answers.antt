@@ -13,14 +13,14 @@ over R S k d z r e v = subst (λ (T : Ring). Verdict T k d z r) (sym e) v
 pub returns-then-named-eq15 : goal.returns-then-named-eq15
 returns-then-named-eq15 c =
     over _ _ c.args.key.now c.args.digest.now c.args.signature.now c.verify-then-named-eq15.result
-    (ap ring_named (sym c.first-byte-named.ensures ∙ c.if-named-eq15.true)) c.verify-then-named-eq15.ensures
+    (ap ring_named (sym c.first_byte-named.ensures ∙ c.if-named-eq15.true)) c.verify-then-named-eq15.ensures
 
 pub returns-then-named : goal.returns-then-named
 returns-then-named c =
     over _ _ c.args.key.now c.args.digest.now c.args.signature.now c.verify-then-named.result
-    (ap ring_named (sym c.first-byte-named.ensures ∙ c.if-named.true)) c.verify-then-named.ensures
+    (ap ring_named (sym c.first_byte-named.ensures ∙ c.if-named.true)) c.verify-then-named.ensures
 
 pub returns : goal.returns
 returns c =
     over _ _ c.args.key.now c.args.digest.now c.args.signature.now c.verify-2.result
-    (ap ring_named (sym c.first-byte-named.ensures) ∙ other c.first-byte-named.result c.if-named-eq1.false c.if-named-eq3.false c.if-named-eq5.false c.if-named-eq15.false c.if-named.false) c.verify-2.ensures
+    (ap ring_named (sym c.first_byte-named.ensures) ∙ other c.first_byte-named.result c.if-named-eq1.false c.if-named-eq3.false c.if-named-eq5.false c.if-named-eq15.false c.if-named.false) c.verify-2.ensures

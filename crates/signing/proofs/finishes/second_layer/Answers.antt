@@ -13,22 +13,22 @@ pub solved-requires : goal.solved-requires
 solved-requires g c =
     let R = g.F.Ring.ring c.args.field.now in
     let L = g.met.F.Ring.laws c.args.field.now in
-    rows_fit R c.args.run.now c.args.shape.now L _ _ c.second-rows.new.rows (omega arith) c.second-rows.ensures
+    rows_fit R c.args.run.now c.args.shape.now L _ _ c.second_rows.new.rows (omega arith) c.second_rows.ensures
 
-pub returns-in-err-solved : goal.returns-in-err-solved
-returns-in-err-solved g c =
+pub returns-in_err-solved : goal.returns-in_err-solved
+returns-in_err-solved g c =
     let R = g.F.Ring.ring c.args.field.now in
     let s = c.args.shape.now in
     let A = system_entry R c.args.run.now s 2 (λ i. get_or c.args.point.now i 0) in
-    let S = rows_whole R c.args.run.now s c.args.b.now c.args.point.now c.second-rows.new.rows c.requires.1.1.0 c.second-rows.ensures in
-    let p = err_from_is_err_and c.from-residual.result c.from-residual.ensures.1 in
-    rw p.1 (subst (λ (d : Dependent). FirstDependent R s.o2 A d.column) (sym p.2) (dependent_ext R s.o2 _ (entry c.second-rows.new.rows (s.o2 + 1)) A S.system c.in-err-solved.ensures.1))
+    let S = rows_whole R c.args.run.now s c.args.b.now c.args.point.now c.second_rows.new.rows c.requires.1.1.0 c.second_rows.ensures in
+    let p = err_from_is_err_and c.from_residual.result c.from_residual.ensures.1 in
+    rw p.1 (subst (λ (d : Dependent). FirstDependent R s.o2 A d.column) (sym p.2) (dependent_ext R s.o2 _ (entry c.second_rows.new.rows (s.o2 + 1)) A S.system c.in_err-solved.ensures.1))
 
 pub returns : goal.returns
 returns g c =
     let R = g.F.Ring.ring c.args.field.now in
     let s = c.args.shape.now in
-    let S = rows_whole R c.args.run.now s c.args.b.now c.args.point.now c.second-rows.new.rows c.requires.1.1.0 c.second-rows.ensures in
+    let S = rows_whole R c.args.run.now s c.args.b.now c.args.point.now c.second_rows.new.rows c.requires.1.1.0 c.second_rows.ensures in
     let n = tail_length c.args.point.now (s.v1 + s.o1) in
-    second_solved R c.args.run.now s (λ r. get_or c.args.b.now r 0) c.second-rows.new.rows c.solved.new.rows c.args.point.now c.take-column.new.column c.requires.1.0 (omega arith) S c.in-ok-solved.ensures.1
-    (λ k l. c.take-column.ensures k (omega arith))
+    second_solved R c.args.run.now s (λ r. get_or c.args.b.now r 0) c.second_rows.new.rows c.solved.new.rows c.args.point.now c.take_column.new.column c.requires.1.0 (omega arith) S c.in_ok-solved.ensures.1
+    (λ k l. c.take_column.ensures k (omega arith))

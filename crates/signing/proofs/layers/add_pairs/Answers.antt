@@ -14,5 +14,5 @@ loop-j-preserved g c r h =
     let R = g.R.Ring.ring c.args.ring.now in
     let L = g.met.R.Ring.laws c.args.ring.now in
     let lc : r < length c.loop-j.sums = omega arith in
-    let lr : r < length c.read-row.new.row = omega arith in
-    pairs_more R L (layer_forms R.q c.args.run.now c.args.shape.now c.args.layer) c.args.x.now r c.args.i c.loop-j.j _ c.product.result c.loop-j.sums c.read-row.new.row c.add-multiple.new.acc c.add-multiple.ensures lc lr c.product.ensures (c.read-row.ensures r h) (c.requires.codes r) (c.loop-j.invariant r h)
+    let lr : r < length c.read_row.new.row = omega arith in
+    pairs_more R L (layer_forms R.q c.args.run.now c.args.shape.now c.args.layer) c.args.x.now r c.args.i c.loop-j.j _ c.product.result c.loop-j.sums c.read_row.new.row c.add_multiple.new.acc c.add_multiple.ensures lc lr c.product.ensures (c.read_row.ensures r h) (c.requires.codes r) (c.loop-j.invariant r h)

@@ -7,14 +7,14 @@ use Rattle.signing.specs.Layers.{LayerAt, layer_forms, pairs_from}
 use Rattle.signing.proofs.LayerSums.{all_codes}
 use Rattle.signing.proofs.layers.layer_constants.Goals as goal
 
-pub add-pairs-requires : goal.add-pairs-requires
-add-pairs-requires g c =
+pub add_pairs-requires : goal.add_pairs-requires
+add_pairs-requires g c =
     let R = g.R.Ring.ring c.args.ring.now in
     let L = g.met.R.Ring.laws c.args.ring.now in
     let s = c.args.shape.now in
     let F = layer_forms R.q c.args.run.now s c.args.layer in
-    let A : LayerAt s c.args.layer c.args.x.now = c.if-not-layer-at.ensures.0 refl in
-    let len : length c.loop-i.constants ≡ group_size s c.args.layer = c.loop-i.auto.constants ∙ c.fill.ensures.len ∙ c.if-constants-equations.false ∙ c.group-size-equations.ensures.value in
+    let A : LayerAt s c.args.layer c.args.x.now = c.if-not-layer_at.ensures.0 refl in
+    let len : length c.loop-i.constants ≡ group_size s c.args.layer = c.loop-i.auto.constants ∙ c.fill.ensures.len ∙ c.if-constants-equations.false ∙ c.group_size-equations.ensures.value in
     record {
       layer = (A, c.loop-i-test.true);
       lengths = (search rules, len);
@@ -25,7 +25,7 @@ pub loop-i-preserved : goal.loop-i-preserved
 loop-i-preserved g c r h =
     let R = g.R.Ring.ring c.args.ring.now in
     let F = layer_forms R.q c.args.run.now c.args.shape.now c.args.layer in
-    c.add-pairs.ensures r h ∙ ap (λ t. R.add t (pairs_from R F c.args.x.now r c.loop-i.i)) (c.loop-i.invariant r h)
+    c.add_pairs.ensures r h ∙ ap (λ t. R.add t (pairs_from R F c.args.x.now r c.loop-i.i)) (c.loop-i.invariant r h)
     ∙ rw add-one
 
 pub returns : goal.returns
@@ -34,9 +34,9 @@ returns g c =
     let R = g.R.Ring.ring c.args.ring.now in
     let s = c.args.shape.now in
     let F = layer_forms R.q c.args.run.now s c.args.layer in
-    let A : LayerAt s c.args.layer c.args.x.now = c.if-not-layer-at.ensures.0 refl in
+    let A : LayerAt s c.args.layer c.args.x.now = c.if-not-layer_at.ensures.0 refl in
     let all : c.loop-i.i ≡ length c.args.x.now = omega arith in
     let term : ℕ → ℕ → ℕ → ℕ = λ r i j. R.mul (F r i j) (R.mul (get_or c.args.x.now i 0) (get_or c.args.x.now j 0)) in (
-      (A, c.if-constants-equations.false ∙ c.group-size-equations.ensures.value),
+      (A, c.if-constants-equations.false ∙ c.group_size-equations.ensures.value),
       λ r h. c.loop-i.invariant r h ∙ ap₂ (λ n m. sum R n (λ i. sum R m (term r i))) (all ∙ A.values) A.values,
     )

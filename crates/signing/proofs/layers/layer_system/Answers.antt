@@ -11,5 +11,5 @@ loop-c-preserved g c =
     let R = g.R.Ring.ring c.args.ring.now in
     let s = c.args.shape.now in
     let n = group_size s c.args.layer in
-    let len : length c.sum-column.new.column ≡ n = search rules in
-    system_more c.args.width n (length c.sum-column.new.column) c.loop-c.c (system_entry R c.args.run.now s c.args.layer (λ i. get_or c.args.x.now i 0)) _ c.args.rows.now c.loop-c.rows c.put-column.new.rows (sym len) (omega arith) c.sum-column.ensures c.put-column.ensures c.loop-c.invariant.0 c.loop-c.invariant.1
+    let len : length c.sum_column.new.column ≡ n = search rules in
+    system_more c.args.width n (length c.sum_column.new.column) c.loop-c.c (system_entry R c.args.run.now s c.args.layer (λ i. get_or c.args.x.now i 0)) _ c.args.rows.now c.loop-c.rows c.put_column.new.rows (sym len) (omega arith) c.sum_column.ensures c.put_column.ensures c.loop-c.invariant.0 c.loop-c.invariant.1

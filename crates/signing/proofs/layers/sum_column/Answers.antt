@@ -11,8 +11,8 @@ loop-i-preserved g c r h =
     let R = g.R.Ring.ring c.args.ring.now in
     let L = g.met.R.Ring.laws c.args.ring.now in
     let lc : r < length c.loop-i.column = omega arith in
-    let lr : r < length c.read-row.new.row = omega arith in
-    column_sum R L (λ k. layer_forms R.q c.args.run.now c.args.shape.now c.args.layer r k (length c.args.x.now + c.args.c)) c.args.x.now r c.loop-i.i c.loop-i.column c.read-row.new.row c.add-multiple.new.acc c.add-multiple.ensures lc lr (c.read-row.ensures r h) (c.loop-i.invariant r h)
+    let lr : r < length c.read_row.new.row = omega arith in
+    column_sum R L (λ k. layer_forms R.q c.args.run.now c.args.shape.now c.args.layer r k (length c.args.x.now + c.args.c)) c.args.x.now r c.loop-i.i c.loop-i.column c.read_row.new.row c.add_multiple.new.acc c.add_multiple.ensures lc lr (c.read_row.ensures r h) (c.loop-i.invariant r h)
 
 pub returns : goal.returns
 unfolding layer_entry

@@ -4,4 +4,4 @@ use Rattle.keys.proofs.shapes.Shape.secret_codes.Goals as goal
 
 pub returns : goal.returns
 unfolding secret_codes
-returns c = record { value = ap₂ (λ (x y : ℕ). x + y) c.layer-start.ensures.value c.layer_codes.ensures.value; bound = omega arith }
+returns c = record { value = ap₂ (λ (x y : ℕ). x + y) c.layer_start.ensures.value c.layer_codes.ensures.value; bound = omega arith }

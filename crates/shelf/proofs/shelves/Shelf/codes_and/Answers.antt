@@ -12,7 +12,7 @@ returns g c =
     let key = c.args.key.now in
     let last : List (Option Told) = option_map told c.args.last ∷ [] in
     let same =
-    also (key_codes q key c.args.head.now c.requires.0 _ _ _ (take_rest key _) c.secret-codes.ensures.value c.foreign-code.ensures)
-    (also (strip_codes q c.args.strip.now _ _ c.requires.1.1 c.foreign-byte.ensures)
+    also (key_codes q key c.args.head.now c.requires.0 _ _ _ (take_rest key _) c.secret_codes.ensures.value c.foreign_code.ensures)
+    (also (strip_codes q c.args.strip.now _ _ c.requires.1.1 c.foreign_byte.ensures)
     (refl {a = last})) in
-    answers_as (λ _. Unit {0}) _ _ c.refuse-first.result same c.refuse-first.ensures
+    answers_as (λ _. Unit {0}) _ _ c.refuse_first.result same c.refuse_first.ensures

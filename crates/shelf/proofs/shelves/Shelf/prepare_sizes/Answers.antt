@@ -13,9 +13,9 @@ returns g c =
     let key = c.args.key.now in
     let h = c.args.head.now in
     let none : List (Option Told) = [] in
-    answers_as (λ _. Unit {0}) _ _ c.refuse-first.result
-    (also (key_length_lem q key h c.requires _ _ _ c.size-q.ensures c.secret-len.ensures c.wrong-length.ensures)
-    (also (strip_length q key h c.requires c.args.strip.now _ _ c.wrong-strip.ensures)
-    (also (no_head q Vinegar c.args.vinegar.now (shape_of key).v1 _ (packed_length_lem q key h c.requires Vinegar c.args.vinegar.now (λ (s : Shape). s.v1) _ _ _ _ c.size-q.ensures refl c.packed-len.ensures.value c.wrong-length-2.ensures))
-    (also (work_length q key h c.requires c.args.workspace.now _ _ c.sign-workspace.ensures c.short-workspace.ensures) (refl {a = none})))))
-    c.refuse-first.ensures
+    answers_as (λ _. Unit {0}) _ _ c.refuse_first.result
+    (also (key_length_lem q key h c.requires _ _ _ c.size-q.ensures c.secret_len.ensures c.wrong_length.ensures)
+    (also (strip_length q key h c.requires c.args.strip.now _ _ c.wrong_strip.ensures)
+    (also (no_head q Vinegar c.args.vinegar.now (shape_of key).v1 _ (packed_length_lem q key h c.requires Vinegar c.args.vinegar.now (λ (s : Shape). s.v1) _ _ _ _ c.size-q.ensures refl c.packed_len.ensures.value c.wrong_length-2.ensures))
+    (also (work_length q key h c.requires c.args.workspace.now _ _ c.sign_workspace.ensures c.short_workspace.ensures) (refl {a = none})))))
+    c.refuse_first.ensures

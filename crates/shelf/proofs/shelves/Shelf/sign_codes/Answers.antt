@@ -13,9 +13,9 @@ returns g c =
     let key = c.args.key.now in
     let h = c.args.head.now in
     let none : List (Option Told) = [] in
-    answers_as (λ _. Unit {0}) _ _ c.refuse-first.result
-    (also (key_codes q key h c.requires.0 _ _ _ (take_rest key _) c.secret-codes.ensures.value c.foreign-code.ensures)
-    (also (strip_codes q c.args.strip.now _ _ c.requires.1.1 c.foreign-byte.ensures)
-    (also (packed_codes q key h c.requires.0 Digest c.args.digest.now equations _ _ c.equations.ensures.value c.foreign-code-2.ensures)
+    answers_as (λ _. Unit {0}) _ _ c.refuse_first.result
+    (also (key_codes q key h c.requires.0 _ _ _ (take_rest key _) c.secret_codes.ensures.value c.foreign_code.ensures)
+    (also (strip_codes q c.args.strip.now _ _ c.requires.1.1 c.foreign_byte.ensures)
+    (also (packed_codes q key h c.requires.0 Digest c.args.digest.now equations _ _ c.equations.ensures.value c.foreign_code-2.ensures)
     (also c.strange.ensures (refl {a = none})))))
-    c.refuse-first.ensures
+    c.refuse_first.ensures
