@@ -89,23 +89,23 @@ fn brought<R: Ring>(ring: &R, run: &[u8], shape: &Shape, mask: Mask, x: &[u8], i
 }
 
 // Brings x, which a mask of the secret key was multiplied with, back: the inverse of the mask times x.
-// False, and the result as it was, where one of the two has not the mask's side.
+// False, and `image` as it was, where one of the two has not the mask's side.
 pub fn bring_back<R: Ring>(
     ring: &R,
     run: &[u8],
     shape: &Shape,
     mask: Mask,
     x: &[u8],
-    res: &mut [u8],
+    image: &mut [u8],
 ) -> bool
-    ensures { BroughtBack (R.Ring.ring ring.now) run.now shape.now mask x.now res.old result res.new }
+    ensures { BroughtBack (R.Ring.ring ring.now) run.now shape.now mask x.now image.old result image.new }
 {
     let n = side(shape, mask);
-    if x.len() != n || res.len() != n {
+    if x.len() != n || image.len() != n {
         return false;
     }
     for i in 0..n {
-        res[i] = brought(ring, run, shape, mask, x, i);
+        image[i] = brought(ring, run, shape, mask, x, i);
     }
     true
 }

@@ -1,11 +1,11 @@
 -- Sums of the terms of a quadratic form, in the order in which they are added up. Assumes nothing.
-use Rattle.std.proofs.Common.{◌≡◌, ℕ, zero, suc, ◌+◌, ◌-◌, ◌*◌, ◌<◌, ◌≤◌, cond, leb, List, length, get_or, sym, refl, ap, ◌∙◌, ap₂, suc-mul, mul_comm, add-mul, mul-le-mul, one-mul, zero-add, zero-mul as zero-mul-nat, arith, le-leb}
+use Rattle.std.proofs.Common.{◌≡◌, ℕ, zero, suc, ◌+◌, ◌-◌, ◌*◌, ◌<◌, ◌≤◌, cond, leb, List, length, get_or, sym, refl, ap, ◌∙◌, ap₂, suc-mul, mul_comm, add-mul, mul-le-mul, one-mul, zero-add, zero-mul, arith, le-leb}
 use borrow.Author.Tests.{lt-leb}
 use Rattle.std.proofs.lemmas.Bool.{cond-true, cond-false}
 use Rattle.std.proofs.lemmas.List.FromFn.{length-map-range_with_len, get_or-map-range_with_len}
 use Rattle.algebra.specs.Rings.{Ring, RingLaws}
 use Rattle.algebra.specs.Sums.{sum}
-use Rattle.algebra.proofs.Codes.{nil_code, zero-mul, sum_code}
+use Rattle.algebra.proofs.Codes.{nil_code, zero_mul, sum_code}
 use Rattle.fields.specs.Packing.{code_at, codes_from}
 use Rattle.fields.specs.Rows.{plus_times}
 use Rattle.fields.proofs.Additions.{get_or_plus}
@@ -31,7 +31,7 @@ coefficient_below q run n m e i j h = cond-false (leb i j) _ _ (lt-leb i j h)
 module _ (R : Ring) (L : RingLaws R) where
   pub term_below : (run x : List ℕ) (m e i j : ℕ) → j < i → term_of R run x m e i j ≡ 0
   unfolding term_of
-  term_below run x m e i j h = ap (λ t. R.mul t (R.mul (get_or x i 0) (get_or x j 0))) (coefficient_below R.q run (length x) m e i j h) ∙ zero-mul R L _
+  term_below run x m e i j h = ap (λ t. R.mul t (R.mul (get_or x i 0) (get_or x j 0))) (coefficient_below R.q run (length x) m e i j h) ∙ zero_mul R L _
 
   pub sum_zeros : (n : ℕ) (f : ℕ → ℕ) → ((k : ℕ) → k < n → f k ≡ 0) → sum R n f ≡ 0
   sum_zeros zero f h = refl
@@ -95,7 +95,7 @@ area_next n i at m e = rw (pairs_more n i) (ap (λ (t : ℕ). t + (n - i) * m) e
 
 pub area_none : (n m : ℕ) → 0 ≡ pairs_before n 0 * m
 unfolding pairs_before
-area_none n m = sym (zero-mul-nat m)
+area_none n m = sym (zero-mul m)
 
 triangle : (d : ℕ) → (d + 1) * (d + 1 + 1) ≡ d * (d + 1) + 2 * (d + 1)
 triangle d = let e : d + 1 + 1 ≡ d + 2 = omega arith in mul_comm (d + 1) (d + 1 + 1) ∙ ap (λ (t : ℕ). t * (d + 1)) e ∙ add-mul d 2 (d + 1)

@@ -17,17 +17,17 @@ pub fn fills(len: usize, rows: usize, columns: usize) -> bool
     }
 }
 
-// The matrix times the vector: a row for each place of `result`, a column for each of `vector`.
-// False, and `result` as it was, where the matrix has not as many codes.
-pub fn apply<R: Ring>(ring: &R, matrix: &[u8], vector: &[u8], res: &mut [u8]) -> bool
-    ensures { Applied (R.Ring.ring ring.now) matrix.now vector.now res.old result res.new }
+// The matrix times the vector: a row for each place of `image`, a column for each of `vector`.
+// False, and `image` as it was, where the matrix has not as many codes.
+pub fn apply<R: Ring>(ring: &R, matrix: &[u8], vector: &[u8], image: &mut [u8]) -> bool
+    ensures { Applied (R.Ring.ring ring.now) matrix.now vector.now image.old result image.new }
 {
     let width = vector.len();
-    if !fills(matrix.len(), res.len(), width) {
+    if !fills(matrix.len(), image.len(), width) {
         return false;
     }
-    for i in 0..result.len() {
-        res[i] = dot(ring, &matrix[i * width..i * width + width], vector);
+    for i in 0..image.len() {
+        image[i] = dot(ring, &matrix[i * width..i * width + width], vector);
     }
     true
 }

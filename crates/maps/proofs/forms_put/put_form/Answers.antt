@@ -42,15 +42,15 @@ loop-p-preserved g c =
     elim c.if-j-n.branch [
       | then-j-n x ↦
           let turn = pair_turn n i j v.0 x.if-j-n.true in
-          let s : pair_at n c.if-j-n.i c.if-j-n.j ≡ pair_at n (i + 1) (i + 1) = ap₂ (pair_at n) x.i_is x.j_is in
-          let xi = x.i_is in
-          let xj = x.j_is in
+          let s : pair_at n c.if-j-n.i c.if-j-n.j ≡ pair_at n (i + 1) (i + 1) = ap₂ (pair_at n) x.i-is x.j-is in
+          let xi = x.i-is in
+          let xj = x.j-is in
           (omega arith, omega arith, omega arith, (λ h. omega arith), omega arith, F)
       | else-j-n x ↦
           let next = pair_next n i j v.0 in
-          let s : pair_at n c.if-j-n.i c.if-j-n.j ≡ pair_at n i (j + 1) = ap₂ (pair_at n) x.i_is x.j_is in
-          let xi = x.i_is in
-          let xj = x.j_is in
+          let s : pair_at n c.if-j-n.i c.if-j-n.j ≡ pair_at n i (j + 1) = ap₂ (pair_at n) x.i-is x.j-is in
+          let xi = x.i-is in
+          let xj = x.j-is in
           let ne = x.if-j-n.false in
           (omega arith, omega arith, omega arith, (λ h. omega arith), omega arith, F)
     ]

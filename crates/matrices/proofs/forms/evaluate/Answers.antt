@@ -43,7 +43,7 @@ overflow_add-at g c =
     let hm : m ≤ 1024 = omega arith in
     let hd : n - i ≤ n = omega arith in
     let b = place_small n m i (n - i) hi hn hm hd in
-    let e = native.Mathlib.Nat.add_mul (pairs_before n i) (n - i) m in
+    let e = native.Mathlib.Nat.add-mul (pairs_before n i) (n - i) m in
     let s : length c.add_terms.new.values ≡ m = omega arith in
     rw s (omega arith)
 

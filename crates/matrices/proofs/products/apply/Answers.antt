@@ -9,7 +9,7 @@ use Rattle.matrices.proofs.products.apply.Goals as goal
 pub slice_bounds-dot-end : goal.slice_bounds-dot-end
 slice_bounds-dot-end g c =
     let e = true-eqb _ _ c.if-not-fills.ensures in
-    let l = row_below c.loop-i.i (length c.args.res.now) (length c.args.vector.now) c.loop-i-test.true in
+    let l = row_below c.loop-i.i (length c.args.image.now) (length c.args.vector.now) c.loop-i-test.true in
     omega arith
 
 pub loop-i-preserved : goal.loop-i-preserved
@@ -19,8 +19,8 @@ loop-i-preserved g c =
     let x = c.args.vector.now in
     let i = c.loop-i.i in
     let e = true-eqb _ _ c.if-not-fills.ensures in
-    let l = row_below i (length c.args.res.now) (length x) c.loop-i-test.true in
+    let l = row_below i (length c.args.image.now) (length x) c.loop-i-test.true in
     let f : ℕ → ℕ = λ k. dot_of R (length x) (entry m (length x) k) (λ j. get_or x j 0) in
     let h : i * length x + length x ≤ length m = omega arith in
     let v : c.dot.result ≡ f i = c.dot.ensures ∙ dot_row R m x i (length x) refl h in
-    subst (λ y. (k : ℕ) → k < i + 1 → get_or (set c.loop-i.result i y) k 0 ≡ f k) (sym v) (fill_by_more f c.loop-i.result i 0 (omega arith) c.loop-i.invariant)
+    subst (λ y. (k : ℕ) → k < i + 1 → get_or (set c.loop-i.image i y) k 0 ≡ f k) (sym v) (fill_by_more f c.loop-i.image i 0 (omega arith) c.loop-i.invariant)

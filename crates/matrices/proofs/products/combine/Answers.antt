@@ -25,6 +25,6 @@ loop-k-preserved g c j l =
     let e : w ≡ length c.args.row.now = omega arith in
     let m = ap (λ t. n * t) e in
     elim c.if-factor-ne0.branch [
-      | then-factor-ne0 p ↦ combine_more R c.loop-k.row c.if-factor-ne0.row b fs k w w j refl (p.row_is ∙ p.add_multiple.ensures) (omega arith) (omega arith) l (c.loop-k.invariant j l)
-      | else-factor-ne0 p ↦ ap (λ xs. get_or xs j 0) p.row_is ∙ combine_skip R (g.met.R.Ring.laws c.args.ring.now) b fs (get_or c.loop-k.row j 0) k w j p.if-factor-ne0.false (c.loop-k.invariant j l)
+      | then-factor-ne0 p ↦ combine_more R c.loop-k.row c.if-factor-ne0.row b fs k w w j refl (p.row-is ∙ p.add_multiple.ensures) (omega arith) (omega arith) l (c.loop-k.invariant j l)
+      | else-factor-ne0 p ↦ ap (λ xs. get_or xs j 0) p.row-is ∙ combine_skip R (g.met.R.Ring.laws c.args.ring.now) b fs (get_or c.loop-k.row j 0) k w j p.if-factor-ne0.false (c.loop-k.invariant j l)
     ]
