@@ -18,7 +18,7 @@ returns g c =
     let head_is : c.args.head.now ≡ head_of key = c.requires.0 in
     let n_is : c.variables.result ≡ variables (shape_of key) = c.variables.ensures.value ∙ ap (λ (h : Head). variables h.shape) head_is in
     let m_is : c.equations.result ≡ equations (shape_of key) = c.equations.ensures.value ∙ ap (λ (h : Head). equations h.shape) head_is in
-    let codes_is : c.public_codes_lem.result ≡ public_codes (shape_of key) = c.public_codes_lem.ensures.value ∙ ap (λ (h : Head). public_codes h.shape) head_is in
+    let codes_is : c.public_codes.result ≡ public_codes (shape_of key) = c.public_codes.ensures.value ∙ ap (λ (h : Head). public_codes h.shape) head_is in
     let none : List (Option Told) = [] in
     let same =
     also (codes_same q Key key _ 4 (public_codes (shape_of key)) _ _ c.foreign_code.ensures (take_rest key _ ∙ ap (λ (h : Head). drop h.len key) head_is) codes_is)
