@@ -103,7 +103,7 @@ fn second_layer<F: Field>(
     point: &mut [u8],
 ) -> Result<(), Dependent>
     requires { (within shape.now ≡ true) × ((length point.old ≡ variables shape.now) × ((length b.old ≡ equations shape.now) × (length rows.old ≡ shape.now.o2 * (shape.now.o2 + 1)))) }
-    ensures* { λ r. ⌜ SecondAnswered (F.Ring.ring field.now) run.now shape.now (λ r. slice_index b.old r) (λ i. slice_index point.old i) r point.new ⌝ }
+    ensures { SecondAnswered (F.Ring.ring field.now) run.now shape.now (λ r. slice_index b.old r) (λ i. slice_index point.old i) result point.new }
 {
     let (o1, o2) = (shape.o1 as usize, shape.o2 as usize);
     let known = shape.v1 as usize + o1;

@@ -16,5 +16,5 @@ pub returns : goal.returns
 returns g c =
     let R = g.R.Ring.ring c.args.ring.now in
     let s = c.args.shape.now in
-    signature_written R.q (variables s) _ c.bring_back.new.result c.args.signature.now c.write_codes.new.run c.write_codes.result (omega arith) c.requires.1.1
-    (brought_there R c.args.run.now s Inner c.args.point.now _ c.bring_back.new.result c.bring_back.result c.requires.1.0 (omega arith) c.bring_back.ensures) c.write_codes.ensures.0 c.write_codes.ensures.1
+    signature_written R.q (variables s) _ c.bring_back.new.image c.args.signature.now c.write_codes.new.run c.write_codes.result (omega arith) c.requires.1.1
+    (brought_there R c.args.run.now s Inner c.args.point.now _ c.bring_back.new.image c.bring_back.result c.requires.1.0 (omega arith) c.bring_back.ensures) c.write_codes.ensures.0 c.write_codes.ensures.1
