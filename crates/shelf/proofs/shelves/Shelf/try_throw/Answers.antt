@@ -23,4 +23,4 @@ invariant_of-self g c =
     let S = c.args.self.now in
     let t = throwable q S.inner c.args.key.now c.args.strip.now c.args.start.now.number c.in_ok-head.ensures.0 in
     let sums = one_more_thrown S.inner c.args.start.now.number t.held S.sums in
-    (S.few, (S.bound, (S.some, (S.lives, (S.order, (sums, (empty_hand S.inner.taken, tt)))))))
+    record { few = S.few; bound = S.bound; some = S.some; lives = S.lives; order = S.order; sums = sums; held = empty_hand S.inner.taken }
