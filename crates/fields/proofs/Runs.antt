@@ -1,6 +1,6 @@
 -- Packed runs of codes, read and written. Assumes nothing.
 use Rattle.std.proofs.Common.{◌≡◌, ℕ, zero, suc, ◌+◌, ◌*◌, ◌/◌, ◌%◌, ◌<◌, ◌≤◌, min, Bool, true, false, cond, eqb, ltb, ◌≢◌, ◌⊎◌, List, [], ◌∷◌, map, length, get_or, drop, set, Some, None, Option, sym, refl, ap, ◌∙◌, subst, ap₂, inl, inr, le_of_suc-le-suc, not-suc-le-zero, add-zero, zero-add, arith, w8, Fits, le-ltb, lt-ltb, eq-eqb, ne_eqb}
-use Rattle.std.specs.List.{range_with_len, AllByRecursion as All}
+use Rattle.std.specs.List.{range_with_len, AllByRecursion}
 use Rattle.std.proofs.lemmas.List.{get_or-drop, get_or_past, drop_all, ext_get_or, length-set, get_or-set_same, get_or-set_other, set_past}
 use Rattle.std.proofs.lemmas.Bool.{cond-true, cond-false, cases_lt, cases_eq}
 use Rattle.std.proofs.lemmas.List.FromFn.{length-map-range_with_len, get_or-map-range_with_len}
@@ -90,7 +90,7 @@ rest_narrow q run from i h =
     let e : 2 * (from / 2) + (from % 2 + i) ≡ from + i = omega arith in
     ap (λ (r : List ℕ). code_at q r (from % 2 + i)) (drop_min run (from / 2)) ∙ narrow_drop q run (from / 2) (from % 2 + i) h ∙ ap (code_at q run) e
 
-pub all_at : (q : ℕ) (cs : List ℕ) → All (λ c. c < q) cs → (k : ℕ) → k < length cs → get_or cs k 0 < q
+pub all_at : (q : ℕ) (cs : List ℕ) → AllByRecursion (λ c. c < q) cs → (k : ℕ) → k < length cs → get_or cs k 0 < q
 all_at q [] a k h = absurd (not-suc-le-zero h)
 all_at q (c ∷ cs) a zero h = a.0
 all_at q (c ∷ cs) a (suc k) h = all_at q cs a.1 k (le_of_suc-le-suc h)
@@ -157,7 +157,7 @@ halved cs k =
     high : (x y b : ℕ) → b ≡ x % 16 + 16 * (y % 16) → b / 16 ≡ y % 16
     high x y b e = omega arith
 
-pub code_back : (q : ℕ) (cs : List ℕ) → All (λ c. c < q) cs → (k : ℕ) → k < length cs → code_at q (packed q cs) k ≡ get_or cs k 0
+pub code_back : (q : ℕ) (cs : List ℕ) → AllByRecursion (λ c. c < q) cs → (k : ℕ) → k < length cs → code_at q (packed q cs) k ≡ get_or cs k 0
 code_back q cs a k l =
     elim (cases_lt 16 q) [
       | inl h ↦ wide_at q (packed q cs) k h ∙ ap (λ (xs : List ℕ). get_or xs k 0) (wide_packed q cs h)
@@ -271,7 +271,7 @@ put_other q run k j c n =
         ]
 
 -- A run is fixed by its codes; the half byte over is 0.
-pub run_from_codes : (q : ℕ) (run cs : List ℕ) → length run ≡ packed_length q (length cs) → All (λ c. c < q) cs → ((k : ℕ) → k < length cs → code_at q run k ≡ get_or cs k 0) → (q ≤ 16 → code_at q run (length cs) ≡ 0) → run ≡ packed q cs
+pub run_from_codes : (q : ℕ) (run cs : List ℕ) → length run ≡ packed_length q (length cs) → AllByRecursion (λ c. c < q) cs → ((k : ℕ) → k < length cs → code_at q run k ≡ get_or cs k 0) → (q ≤ 16 → code_at q run (length cs) ≡ 0) → run ≡ packed q cs
 run_from_codes q run cs len small same over =
     elim (cases_lt 16 q) [
       | inl h ↦

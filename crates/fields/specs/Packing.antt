@@ -1,6 +1,6 @@
 -- Codes in bytes: a ring of more than 16 codes has one code a byte, any other two, the first in the low four bits.
 use Rattle.std.specs.Prelude.{◌≡◌, ℕ, zero, suc, ◌+◌, ◌*◌, ◌/◌, ◌%◌, ◌<◌, Bool, cond, List, [], ◌∷◌, map, length, Some, None, Option, ◌==◌, nat_lt, slice_index, slice_set}
-use Rattle.std.specs.List.{range_with_len, AllByRecursion as All}
+use Rattle.std.specs.List.{range_with_len, AllByRecursion}
 
 -- how many bytes a run of n codes takes
 unfoldable pub packed_length : ℕ → ℕ → ℕ
@@ -56,4 +56,4 @@ pub record ReadBack (q : ℕ) (cs : List ℕ) : Type 0 where
   pub bytes : length (packed q cs) ≡ packed_length q (length cs)
 
 abbrev pub RunsReadBack : ℕ → Type 0
-RunsReadBack q = (cs : List ℕ) → All (λ c. c < q) cs → ReadBack q cs
+RunsReadBack q = (cs : List ℕ) → AllByRecursion (λ c. c < q) cs → ReadBack q cs

@@ -15,6 +15,7 @@ mod worked;
 pub use central::{group_size, group_start};
 pub use central_rows::layer_row;
 pub use compositions::{composition_stands, verdict_stands};
+pub use keys::{Buffer, Head, Refusal, Set, Shape, named, read_head};
 pub use mask_backs::{Mask, bring_back, masks_undone};
 pub use public_keys::public_key;
 pub use verdicts::verify;

@@ -1,5 +1,5 @@
 -- Arrays of two blocks of n columns. Assumes nothing.
-use Rattle.std.proofs.Common.{◌≡◌, ℕ, zero, suc, ◌+◌, ◌-◌, ◌*◌, ◌<◌, ◌≤◌, List, length, get_or, drop, set, replicate, sym, refl, ap, ◌∙◌, subst, inl, inr, mul-le-mul_right, suc-mul, arith, length-drop, length-take-le}
+use Rattle.std.proofs.Common.{◌≡◌, ℕ, zero, suc, ◌+◌, ◌-◌, ◌*◌, ◌<◌, ◌≤◌, ◌⊎◌, List, length, get_or, drop, set, replicate, sym, refl, ap, ◌∙◌, subst, inl, inr, suc-mul, mul-add, arith, length-drop, length-take-le}
 use native.Mathlib.Decide.{dec_lt, ℕ_discrete}
 use lib.ListN.{length-replicate}
 use borrow.Rule.Slice.PartMut.{put_mid, same_len_mid}
@@ -7,10 +7,10 @@ use Rattle.std.specs.List.{between}
 use Rattle.std.proofs.lemmas.List.Edits.{length-between, get_or-between}
 use Rattle.std.proofs.lemmas.List.{get_or_past, get_or-set_same, get_or-set_other, get_or-replicate}
 use Rattle.algebra.specs.Rings.{Ring, RingLaws}
-use Rattle.algebra.specs.Systems.{unit_matrix, FirstDependent, Inverse}
-use Rattle.algebra.proofs.Systems.{unit_here, unit_off, unit_code, solution_ext, dependent_ext, dot_ext, inverse}
+use Rattle.algebra.specs.Systems.{unit_matrix, FirstDependent, Solution, Inverse}
+use Rattle.algebra.proofs.Systems.{unit_here, unit_off, unit_code, solution_ext, dependent_ext, inverse}
 use Rattle.matrices.specs.Arrays.{entry, Codes, Off, Written, Augmented, RightOf}
-use Rattle.matrices.specs.Linear.{LeftCodes, Solved, Inverted}
+use Rattle.matrices.specs.Linear.{Solved, Inverted}
 use Rattle.matrices.proofs.RowWrites.{row_below, put_written}
 
 -- the row and the column of a place
@@ -63,21 +63,29 @@ unit_written xs ys n a i k e l h z = record { here = here; rest = rest }
     rest m (inl g) = get_or-set_other (put_mid a k xs ys) (a + i) m 1 0 (λ q. omega arith) ∙ W.rest m (inl g)
     rest m (inr g) = get_or-set_other (put_mid a k xs ys) (a + i) m 1 0 (λ q. omega arith) ∙ W.rest m (inr (omega arith))
 
--- row t of the unit matrix is written
-pub augmented_more : (old mid new : List ℕ) (n t : ℕ) → Augmented old mid n t → Written mid new n (t * (n + n) + n) (unit_matrix t) → Augmented old new n (t + 1)
-augmented_more old mid new n t A W = record { left = λ i j g. W.rest (i * (n + n) + j) (off i j g) ∙ A.left i j g; right = right }
+-- row t of [A | 1] is written
+pub augmented_more : (a old mid new : List ℕ) (n t : ℕ) → t * n + n ≤ length a → Augmented a old n t → Written old mid (length (between (t * n) (t * n + n) a)) (t * (n + n)) (λ k. get_or (between (t * n) (t * n + n) a) k 0) → Written mid new n (t * (n + n) + n) (unit_matrix t) → Augmented a new n (t + 1)
+augmented_more a old mid new n t l A V W = record { left = left; right = right }
   where
-    off : (i j : ℕ) → j < n → Off (t * (n + n) + n) n (i * (n + n) + j)
-    off i j g =
-        elim (dec_lt t i) [
-          | yes s ↦ let b = row_below t i (n + n) s in inr (omega arith)
-          | no s ↦ let q : i ≤ t = omega arith in let b = mul-le-mul_right (n + n) q in inl (omega arith)
+    len : length (between (t * n) (t * n + n) a) ≡ n
+    len = length-between a (t * n) (t * n + n) l ∙ omega arith
+
+    earlier : (i j : ℕ) → i < t → j < n + n → get_or new (i * (n + n) + j) 0 ≡ get_or old (i * (n + n) + j) 0
+    earlier i j h g = let b = row_below i t (n + n) h in W.rest (i * (n + n) + j) (inl (omega arith)) ∙ V.rest (i * (n + n) + j) (inl (omega arith))
+
+    left : (i j : ℕ) → i < t + 1 → j < n → entry new (n + n) i j ≡ entry a n i j
+    left i j h g =
+        elim (dec_lt i t) [
+          | yes s ↦ earlier i j s (omega arith) ∙ A.left i j s g
+          | no s ↦ let e : i ≡ t = omega arith in
+              ap (λ u. entry new (n + n) u j) e ∙ W.rest (t * (n + n) + j) (inl (omega arith)) ∙ V.here j (omega (arith, len))
+              ∙ get_or-between a (t * n) (t * n + n) j 0 (omega arith) ∙ ap (λ u. entry a n u j) (sym e)
         ]
 
     right : (i k : ℕ) → i < t + 1 → k < n → entry new (n + n) i (n + k) ≡ unit_matrix i k
     right i k h g =
         elim (dec_lt i t) [
-          | yes s ↦ let b = row_below i t (n + n) s in W.rest (i * (n + n) + (n + k)) (inl (omega arith)) ∙ A.right i k s g
+          | yes s ↦ earlier i (n + k) s (omega arith) ∙ A.right i k s g
           | no s ↦ let e : i ≡ t = omega arith in
               ap (λ u. entry new (n + n) u (n + k)) e ∙ ap (λ u. get_or new u 0) (omega arith) ∙ W.here k g ∙ ap (λ u. unit_matrix u k) (sym e)
         ]
@@ -93,25 +101,14 @@ right_more rows old new n t l A W i k h g =
           ∙ get_or-between rows (t * (n + n) + n) (t * (n + n) + (n + n)) k 0 (omega arith) ∙ ap (λ u. get_or rows u 0) (omega arith) ∙ ap (λ u. entry rows (n + n) u (n + k)) (sym e)
     ]
 
--- only the entries count
-inverse_ext : (R : Ring) (n : ℕ) (A C X : ℕ → ℕ → ℕ) → ((i j : ℕ) → i < n → j < n → A i j ≡ C i j) → Inverse R n A X → Inverse R n C X
-inverse_ext R n A C X h V = record {
-  codes = V.codes;
-  right = λ i j l g. dot_ext R n _ _ _ _ (λ k p. sym (h i k l p)) (λ k p. refl) ∙ V.right i j l g;
-  left = λ i j l g. dot_ext R n _ _ _ _ (λ k p. refl) (λ k p. sym (h k j p g)) ∙ V.left i j l g;
-}
-
-module _ (R : Ring) (L : RingLaws R) (old rows : List ℕ) (n : ℕ) (A : Augmented old rows n n) where
-  same_left : (i j : ℕ) → i < n → j < n → entry rows (n + n) i j ≡ entry old (n + n) i j
-  same_left i j l g = A.left i j g
-
-  pub augmented_codes : length rows ≡ n * (n + n) → LeftCodes R old n → Codes R rows
-  augmented_codes lr h = codes_from_lem R L rows n (n + n) lr each
+module _ (R : Ring) (L : RingLaws R) (a rows : List ℕ) (n : ℕ) (la : length a ≡ n * n) (lr : length rows ≡ n * (n + n)) (A : Augmented a rows n n) where
+  pub augmented_codes : Codes R a → Codes R rows
+  augmented_codes h = codes_from_lem R L rows n (n + n) lr each
     where
       each : (i j : ℕ) → i < n → j < n + n → entry rows (n + n) i j < R.q
       each i j l g =
           elim (dec_lt j n) [
-            | yes s ↦ let e = A.left i j s in let c = h i j l s in omega arith
+            | yes s ↦ let e = A.left i j l s in let c = h (i * n + j) in omega arith
             | no s ↦
                 let k = j - n in
                 let p : j ≡ n + k = omega arith in
@@ -120,19 +117,28 @@ module _ (R : Ring) (L : RingLaws R) (old rows : List ℕ) (n : ℕ) (A : Augmen
                 omega arith
           ]
 
-  pub left_codes_lem : Codes R rows → LeftCodes R old n
-  left_codes_lem h i j l g = let e = A.left i j g in let c = h (i * (n + n) + j) in omega arith
+  pub system_codes : Codes R rows → Codes R a
+  system_codes h = codes_from_lem R L a n n la (λ i j l g. let e = A.left i j l g in let c = h (i * (n + n) + j) in omega arith)
 
-  pub augmented_dependent : (c : ℕ) → FirstDependent R n (entry rows (n + n)) c → FirstDependent R n (entry old (n + n)) c
-  augmented_dependent c = dependent_ext R n c (entry rows (n + n)) (entry old (n + n)) same_left
+  pub augmented_dependent : (c : ℕ) → FirstDependent R n (entry rows (n + n)) c → FirstDependent R n (entry a n) c
+  augmented_dependent c D = dependent_ext R n c (entry rows (n + n)) (entry a n) A.left D
 
-  pub augmented_inverse : (new block : List ℕ) → length block ≡ n * n → Codes R rows → Solved R rows n n new → RightOf new block n n → Inverted R old n block
+  pub augmented_inverse : (new block : List ℕ) → length block ≡ n * n → Codes R a → Solved R rows n n new → RightOf new block n n → Inverted R a n block
   augmented_inverse new block lb h S Q =
       let c : Codes R block = codes_from_lem R L block n n lb (λ i j l g. let e = Q i j l g in let d = S.codes (i * (n + n) + (n + j)) in omega arith) in
-      let same : (i j : ℕ) → i < n → j < n → entry rows (n + n) i j ≡ entry rows (n + n) i j = λ i j l g. refl in
       record {
         codes = c;
-        inverse = inverse_ext R n (entry rows (n + n)) (entry old (n + n)) (entry block n) same_left
-            (inverse R L n (entry rows (n + n)) (entry block n) (λ i j. h (i * (n + n) + j)) (λ i j. c (i * n + j))
-            (solution_ext R n n (entry rows (n + n)) (λ i k. entry rows (n + n) i (n + k)) (λ i k. entry new (n + n) i (n + k)) (entry rows (n + n)) unit_matrix (entry block n) same A.right (λ i k l g. sym (Q i k l g)) S.right));
+        inverse = inverse R L n (entry a n) (entry block n) (λ i j. h (i * n + j)) (λ i j. c (i * n + j))
+            (solution_ext R n n (entry rows (n + n)) (λ i k. entry rows (n + n) i (n + k)) (λ i k. entry new (n + n) i (n + k)) (entry a n) unit_matrix (entry block n) A.left A.right (λ i k l g. sym (Q i k l g)) S.right);
       }
+
+-- twice the order is no more than the square and two
+pub twice_below : (n b : ℕ) → 3 < b → n * n < b → n + n < b
+twice_below zero b h l = omega arith
+twice_below (suc zero) b h l = omega arith
+twice_below (suc (suc zero)) b h l = let e = suc-mul 1 2 in omega arith
+twice_below (suc (suc (suc n))) b h l =
+    let p = suc-mul (suc (suc n)) (suc (suc (suc n))) in let q = suc-mul (suc n) (suc (suc (suc n))) in omega arith
+
+pub both_blocks : (n : ℕ) → 2 * (n * n) ≡ n * (n + n)
+both_blocks n = let e = mul-add n n n in omega arith

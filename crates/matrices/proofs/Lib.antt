@@ -3,3 +3,4 @@ pub mod RowWrites
 pub mod RowSums
 pub mod Columns
 pub mod Blocks
+pub mod Units

@@ -53,8 +53,13 @@ pub record Cleared (R : Ring) (old new : List ℕ) (t w c : ℕ) : Type 0 where
   pub later : (i j : ℕ) → t ≤ i → j < w → entry new w i j ≡ entry old w i j
   pub codes : Codes R old → Codes R new
 
+-- The first t rows of new are [A | 1], where A is n rows of n codes.
+pub record Augmented (a new : List ℕ) (n t : ℕ) : Type 0 where
+  pub left : (i j : ℕ) → i < t → j < n → entry new (n + n) i j ≡ entry a n i j
+  pub right : (i k : ℕ) → i < t → k < n → entry new (n + n) i (n + k) ≡ unit_matrix i k
+
 -- In rows of n + n codes the left blocks are as they were, and the first t rows of the right block are the unit matrix's.
-pub record Augmented (old new : List ℕ) (n t : ℕ) : Type 0 where
+pub record UnitsBeside (old new : List ℕ) (n t : ℕ) : Type 0 where
   pub left : (i j : ℕ) → j < n → entry new (n + n) i j ≡ entry old (n + n) i j
   pub right : (i k : ℕ) → i < t → k < n → entry new (n + n) i (n + k) ≡ unit_matrix i k
 

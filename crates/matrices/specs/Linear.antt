@@ -60,7 +60,31 @@ Told R n A (Err _) = Singular R n A
 abbrev pub FaultsAreSingular : Ring → Type 0
 FaultsAreSingular R = (old : List ℕ) (n m : ℕ) (r : Result Unit Dependent) (new : List ℕ) → Eliminated R old n m (Some r) new → Told R n (entry old (n + m)) r
 
--- n rows of n + n places, and n rows of n places for the inverse.
+-- The system is n rows of n codes, there is room to work, and for the inverse.
+pub record InverseFits (R : Ring) (system : List ℕ) (n lent out : ℕ) : Type 0 where
+  pub places : length system ≡ n * n
+  pub codes : Codes R system
+  pub work : 2 * (n * n) ≤ lent
+  pub room : out ≡ n * n
+
+-- new is the inverse of the system.
+pub record Inverted (R : Ring) (system : List ℕ) (n : ℕ) (new : List ℕ) : Type 0 where
+  pub codes : Codes R new
+  pub inverse : Inverse R n (entry system n) (entry new n)
+
+-- None exactly where something does not fit; new is old but where the system is inverted.
+abbrev pub Inverts : Ring → List ℕ → ℕ → ℕ → List ℕ → Option (Result Unit Dependent) → List ℕ → Type 0
+Inverts R system n work old None new = (InverseFits R system n work (length old) → ⊥) × (new ≡ old)
+Inverts R system n work old (Some (Ok _)) new = InverseFits R system n work (length old) × Inverted R system n new
+Inverts R system n work old (Some (Err e)) new = InverseFits R system n work (length old) × (FirstDependent R n (entry system n) e.column × (new ≡ old))
+
+-- The same where the lengths fit: None exactly where some byte of the system is no code.
+abbrev pub InvertsIn : Ring → List ℕ → ℕ → List ℕ → Option (Result Unit Dependent) → List ℕ → Type 0
+InvertsIn R system n old None new = (Codes R system → ⊥) × (new ≡ old)
+InvertsIn R system n old (Some (Ok _)) new = Codes R system × Inverted R system n new
+InvertsIn R system n old (Some (Err e)) new = Codes R system × (FirstDependent R n (entry system n) e.column × (new ≡ old))
+
+-- For an inverse in place: n rows of n + n places, and n rows of n places for the inverse.
 pub record Room (rows : List ℕ) (n out : ℕ) : Type 0 where
   pub places : length rows ≡ n * (n + n)
   pub inverse : out ≡ n * n
@@ -70,20 +94,20 @@ abbrev pub LeftCodes : Ring → List ℕ → ℕ → Type 0
 LeftCodes R rows n = (i j : ℕ) → i < n → j < n → entry rows (n + n) i j < R.q
 
 -- There is room, and the left block is codes.
-pub record InverseFits (R : Ring) (rows : List ℕ) (n out : ℕ) : Type 0 where
+pub record LeftFits (R : Ring) (rows : List ℕ) (n out : ℕ) : Type 0 where
   pub room : Room rows n out
   pub codes : LeftCodes R rows n
 
 -- new is the inverse of the left block.
-pub record Inverted (R : Ring) (rows : List ℕ) (n : ℕ) (new : List ℕ) : Type 0 where
+pub record LeftInverted (R : Ring) (rows : List ℕ) (n : ℕ) (new : List ℕ) : Type 0 where
   pub codes : Codes R new
   pub inverse : Inverse R n (entry rows (n + n)) (entry new n)
 
 -- None exactly where something does not fit; new is old but where the left block is inverted.
-abbrev pub Inverts : Ring → List ℕ → ℕ → List ℕ → Option (Result Unit Dependent) → List ℕ → Type 0
-Inverts R rows n old None new = (InverseFits R rows n (length old) → ⊥) × (new ≡ old)
-Inverts R rows n old (Some (Ok _)) new = InverseFits R rows n (length old) × Inverted R rows n new
-Inverts R rows n old (Some (Err e)) new = InverseFits R rows n (length old) × (FirstDependent R n (entry rows (n + n)) e.column × (new ≡ old))
+abbrev pub LeftInverts : Ring → List ℕ → ℕ → List ℕ → Option (Result Unit Dependent) → List ℕ → Type 0
+LeftInverts R rows n old None new = (LeftFits R rows n (length old) → ⊥) × (new ≡ old)
+LeftInverts R rows n old (Some (Ok _)) new = LeftFits R rows n (length old) × LeftInverted R rows n new
+LeftInverts R rows n old (Some (Err e)) new = LeftFits R rows n (length old) × (FirstDependent R n (entry rows (n + n)) e.column × (new ≡ old))
 
 -- The last column of new is the one x with A x = b, where b is the last column of old.
 pub record Solving (R : Ring) (old : List ℕ) (n : ℕ) (new : List ℕ) : Type 0 where

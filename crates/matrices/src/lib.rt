@@ -11,4 +11,4 @@ pub use dots::dot;
 pub use elimination::{Dependent, answer_is_fixed, eliminate, fault_is_singular};
 pub use forms::{MOST, evaluate, zeros};
 pub use products::{apply, fills, multiply, multiply_transposed};
-pub use systems::{invert, solve, unit_is_regular};
+pub use systems::{invert, invert_left, solve, unit_is_regular};

@@ -1,7 +1,7 @@
-ghost use Rattle.std.specs.Prelude.{◌≡◌, ℕ, ◌+◌, ◌*◌, ◌^◌, ◌<◌, ◌≤◌, length, slice_index};
+ghost use Rattle.std.specs.Prelude.{◌≡◌, ℕ, ◌+◌, ◌*◌, ◌^◌, ◌<◌, ◌≤◌, length, drop, slice_index};
 ghost use Rattle.algebra.specs.Systems.{Singular, unit_matrix};
-ghost use Rattle.matrices.specs.Arrays.{Written, Augmented, RightOf};
-ghost use Rattle.matrices.specs.Linear.{Room, Inverts, SolvesOne};
+ghost use Rattle.matrices.specs.Arrays.{Written, Augmented, UnitsBeside, RightOf};
+ghost use Rattle.matrices.specs.Linear.{Inverts, InvertsIn, Room, LeftInverts, SolvesOne};
 
 use super::elimination::{Dependent, eliminate};
 use super::products::fills;
@@ -33,10 +33,22 @@ fn put_unit(rows: &mut [u8], at: usize, order: usize, i: usize)
     rows[at + i] = 1;
 }
 
+// Writes [A | 1] for the system A, row by row.
+fn augment(system: &[u8], order: usize, work: &mut [u8])
+    requires { (length system.now ≡ order * order) × ((length work.old ≡ order * (order + order)) × (order + order < 2 ^ 64)) }
+    ensures { Augmented system.now work.new order order }
+{
+    let width = order + order;
+    for i in 0..order {
+        put_row(work, i * width, &system[i * order..i * order + order]);
+        put_unit(work, i * width + order, order, i);
+    }
+}
+
 // Writes the unit matrix into the right block of `order` rows of order + order places.
 fn put_units(rows: &mut [u8], order: usize)
     requires { (length rows.old ≡ order * (order + order)) × (order + order < 2 ^ 64) }
-    ensures { Augmented rows.old rows.new order order }
+    ensures { UnitsBeside rows.old rows.new order order }
 {
     let width = order + order;
     for i in 0..order {
@@ -59,16 +71,63 @@ fn read_right(rows: &[u8], order: usize, block: &mut [u8])
     }
 }
 
+// Inverts a system where the lengths fit.
+fn invert_in<F: Field>(
+    field: &F,
+    system: &[u8],
+    order: usize,
+    work: &mut [u8],
+    inverse: &mut [u8],
+) -> Option<Result<(), Dependent>>
+    requires { (length system.now ≡ order * order) × ((length work.old ≡ order * (order + order)) × ((length inverse.old ≡ order * order) × (order + order < 2 ^ 64))) }
+    ensures { InvertsIn (F.Ring.ring field.now) system.now order inverse.old result inverse.new }
+{
+    augment(system, order, work);
+    let Some(answer) = eliminate(field, work, order, order) else {
+        return None;
+    };
+    match answer {
+        Ok(()) => {
+            read_right(work, order, inverse);
+            Some(Ok(()))
+        }
+        Err(fault) => Some(Err(fault)),
+    }
+}
+
+// Writes the inverse of the system, of `order` rows of `order` codes, into `inverse`, of as many; a fault leaves `inverse` as it was.
+// None, and `inverse` as it was, where a length does not fit, some byte of the system is no code, or `work` has less than twice as many places as the system.
+// What `work` holds afterwards is open; the places from twice the system's length on are as they were.
+pub fn invert<F: Field>(
+    field: &F,
+    system: &[u8],
+    order: usize,
+    work: &mut [u8],
+    inverse: &mut [u8],
+) -> Option<Result<(), Dependent>>
+    ensures inverse { Inverts (F.Ring.ring field.now) system.now order (length work.old) inverse.old result inverse.new }
+    ensures rest { drop (2 * length system.now) work.new ≡ drop (2 * length system.now) work.old }
+{
+    if !fills(system.len(), order, order) || !fills(inverse.len(), order, order) {
+        return None;
+    }
+    if work.len() / 2 < system.len() {
+        return None;
+    }
+    let used = 2 * system.len();
+    invert_in(field, system, order, &mut work[0..used], inverse)
+}
+
 // Inverts A, the left block of the `order` rows of order + order places, and writes its inverse, row by row, into `inverse`.
 // What the right blocks held does not count; what the rows hold afterwards is open. A fault leaves `inverse` as it was.
 // None, and `inverse` as it was, where a length does not fit, which leaves the rows as they were too, or some byte of A is no code.
-pub fn invert<F: Field>(
+pub fn invert_left<F: Field>(
     field: &F,
     rows: &mut [u8],
     order: usize,
     inverse: &mut [u8],
 ) -> Option<Result<(), Dependent>>
-    ensures inverse { Inverts (F.Ring.ring field.now) rows.old order inverse.old result inverse.new }
+    ensures inverse { LeftInverts (F.Ring.ring field.now) rows.old order inverse.old result inverse.new }
     ensures rows { (Room rows.old order (length inverse.old) → ⊥) → rows.new ≡ rows.old }
 {
     let Some(width) = order.checked_add(order) else {
@@ -86,7 +145,7 @@ pub fn invert<F: Field>(
             read_right(rows, order, inverse);
             Some(Ok(()))
         }
-        Err(fault) => Some(Err(fault)),
+        Err(dependent) => Some(Err(dependent)),
     }
 }
 

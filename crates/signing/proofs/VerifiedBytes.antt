@@ -1,7 +1,7 @@
 -- What verify says to signatures as bytes. Assumes nothing.
 use Rattle.std.proofs.Common.{◌≡◌, ℕ, zero, suc, ◌+◌, ◌-◌, ◌*◌, ◌<◌, ◌≤◌, true, not, eqb, ◌≢◌, List, map, length, get_or, drop, Some, None, Option, sym, refl, ap, ◌∙◌, subst, suc-mul, zero-add, arith}
 use native.Mathlib.Decide.{dec_lt, ℕ_discrete}
-use Rattle.std.specs.List.{range_with_len, AllByRecursion as All}
+use Rattle.std.specs.List.{range_with_len, AllByRecursion}
 use Rattle.std.specs.Option.{option_map}
 use Rattle.std.proofs.lemmas.Bool.{eq-eqb, eqb-true, le-ltb, not-false}
 use Rattle.std.proofs.lemmas.List.FromFn.{length-map-range_with_len, get_or-map-range_with_len}
@@ -109,7 +109,7 @@ pair_places n (suc r) Q h b p l =
     ]
 
 -- a vector's bytes
-all_counting : (P : ℕ → Type 0) (a n : ℕ) → ((i : ℕ) → a ≤ i → i < a + n → P i) → All P (range_with_len a n)
+all_counting : (P : ℕ → Type 0) (a n : ℕ) → ((i : ℕ) → a ≤ i → i < a + n → P i) → AllByRecursion P (range_with_len a n)
 all_counting P a zero h = tt
 all_counting P a (suc n) h = (h a (omega arith) (omega arith), all_counting P (a + 1) n (λ i l g. h i (omega arith) (omega arith)))
 

@@ -2,13 +2,13 @@ ghost use Rattle.std.specs.Prelude.{◌≡◌, ℕ, ◌+◌, ◌*◌, ◌<◌, �
 ghost use Rattle.fields.specs.Packing.{packed_length};
 ghost use Rattle.keys.specs.Shapes.{within, place_length};
 ghost use Rattle.matrices.specs.Arrays.{Written};
-ghost use Rattle.matrices.specs.Linear.{InverseFits, Inverts};
+ghost use Rattle.matrices.specs.Linear.{LeftFits, LeftInverts};
 ghost use Rattle.signing.specs.Starts.{Opened, Started};
 
 use super::layers::{layer_constants, layer_system};
 use fields::{Field, Ring, packed_len, read_codes};
 use keys::{LayerFault, Shape};
-use matrices::{Dependent, invert};
+use matrices::{Dependent, invert_left};
 
 // Inverts the system in the left blocks of rows that fit; what the rows hold afterwards is open.
 fn inverted<F: Field>(
@@ -17,10 +17,10 @@ fn inverted<F: Field>(
     order: usize,
     inverse: &mut [u8],
 ) -> Result<(), Dependent>
-    requires { InverseFits (F.Ring.ring field.now) rows.old order (length inverse.old) }
-    ensures { Inverts (F.Ring.ring field.now) rows.old order inverse.old (Some result) inverse.new }
+    requires { LeftFits (F.Ring.ring field.now) rows.old order (length inverse.old) }
+    ensures { LeftInverts (F.Ring.ring field.now) rows.old order inverse.old (Some result) inverse.new }
 {
-    match invert(field, rows, order, inverse) {
+    match invert_left(field, rows, order, inverse) {
         Some(answer) => answer,
         None => unreachable(),
     }

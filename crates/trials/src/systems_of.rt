@@ -1,5 +1,5 @@
 use fields::{Mod31, gf16};
-use matrices::{Dependent, apply, eliminate, invert, multiply, solve};
+use matrices::{Dependent, apply, eliminate, invert, invert_left, multiply, solve};
 
 // 0 for a solution, the column of a fault, 99 for no answer.
 fn said(answer: Option<Result<(), Dependent>>) -> usize {
@@ -89,18 +89,40 @@ fn one_right_side(rt: HostRuntime) {
 }
 
 // The inverse of [1 2; 3 4] is [29 1; 17 15]: 29 + 34 = 63 = 1, 1 + 30 = 0, 87 + 68 = 155 = 0 and 3 + 60 = 63 = 1.
-// What stood right of it does not count. The second column of [1 2; 2 4] is twice the first; 31 is no code.
 #[test]
 fn inverse(rt: HostRuntime) {
+    let mut work = [7u8; 9];
+    let mut x = [9u8; 4];
+    assert_eq!(rt;
+        said(invert(&Mod31, &[1u8, 2, 3, 4], 2, &mut work, &mut x)),
+        0
+    );
+    assert_eq!(rt; x, [29u8, 1, 17, 15]);
+    assert_eq!(rt; work[8], 7);
+    assert_eq!(rt;
+        said(invert(&Mod31, &[1u8, 2, 2, 4], 2, &mut work, &mut x)),
+        2
+    );
+    assert_eq!(rt; x, [29u8, 1, 17, 15]);
+    let mut short = [0u8; 7];
+    assert_eq!(rt;
+        said(invert(&Mod31, &[1u8, 2, 3, 4], 2, &mut short, &mut x)),
+        99
+    );
+}
+
+// The same inverse in place: what stood right of the system does not count. The second column of [1 2; 2 4] is twice the first; 31 is no code.
+#[test]
+fn inverse_in_place(rt: HostRuntime) {
     let mut x = [9u8; 4];
     let mut a = [1u8, 2, 7, 31, 3, 4, 0, 255];
-    assert_eq!(rt; said(invert(&Mod31, &mut a, 2, &mut x)), 0);
+    assert_eq!(rt; said(invert_left(&Mod31, &mut a, 2, &mut x)), 0);
     assert_eq!(rt; x, [29u8, 1, 17, 15]);
     let mut b = [1u8, 2, 0, 0, 2, 4, 0, 0];
-    assert_eq!(rt; said(invert(&Mod31, &mut b, 2, &mut x)), 2);
+    assert_eq!(rt; said(invert_left(&Mod31, &mut b, 2, &mut x)), 2);
     assert_eq!(rt; x, [29u8, 1, 17, 15]);
     let mut c = [1u8, 31, 0, 0, 3, 4, 0, 0];
-    assert_eq!(rt; said(invert(&Mod31, &mut c, 2, &mut x)), 99);
+    assert_eq!(rt; said(invert_left(&Mod31, &mut c, 2, &mut x)), 99);
     assert_eq!(rt; x, [29u8, 1, 17, 15]);
 }
 
@@ -109,12 +131,12 @@ fn inverse(rt: HostRuntime) {
 fn no_room_for_the_inverse(rt: HostRuntime) {
     let mut x = [9u8; 4];
     let mut a = [1u8, 2, 7, 7, 3, 4, 7];
-    assert_eq!(rt; said(invert(&Mod31, &mut a, 2, &mut x)), 99);
+    assert_eq!(rt; said(invert_left(&Mod31, &mut a, 2, &mut x)), 99);
     assert_eq!(rt; a, [1u8, 2, 7, 7, 3, 4, 7]);
     assert_eq!(rt; x, [9u8; 4]);
     let mut y = [9u8; 3];
     let mut b = [1u8, 2, 7, 7, 3, 4, 7, 7];
-    assert_eq!(rt; said(invert(&Mod31, &mut b, 2, &mut y)), 99);
+    assert_eq!(rt; said(invert_left(&Mod31, &mut b, 2, &mut y)), 99);
     assert_eq!(rt; b, [1u8, 2, 7, 7, 3, 4, 7, 7]);
 }
 

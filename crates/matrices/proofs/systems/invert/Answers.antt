@@ -1,62 +1,26 @@
-use Rattle.std.proofs.Common.{◌≡◌, ◌+◌, ◌*◌, length, Ok, Err, refl, subst, arith, rules}
-use Rattle.matrices.specs.Linear.{Room, Reduced}
-use Rattle.matrices.proofs.RowWrites.{too_wide}
-use Rattle.matrices.proofs.Columns.{apart}
-use Rattle.matrices.proofs.Blocks.{augmented_codes, left_codes_lem, augmented_dependent, augmented_inverse}
+use Rattle.std.proofs.Common.{◌≡◌, ◌-◌, ◌*◌, ◌≤◌, length, take, sym, ap, ◌∙◌, arith, length-take-le, true-eqb}
+use Rattle.std.proofs.lemmas.Slice.{drop-append-drop}
+use Rattle.matrices.proofs.Columns.{inverts}
+use Rattle.matrices.proofs.Blocks.{twice_below, both_blocks}
 use Rattle.matrices.proofs.systems.invert.Goals as goal
 
-pub returns-in_default : goal.returns-in_default
-returns-in_default g c =
+pub invert_in-requires : goal.invert_in-requires
+invert_in-requires g c =
     let n = c.args.order in
-    record {
-      inverse = (λ F. too_wide (length c.args.rows.now) n n 18446744073709551616 (omega arith) (omega arith) c.in_default.ensures F.room.places, refl);
-      rows = λ _. refl;
-    }
+    let a : length c.args.system.now ≡ n * n = true-eqb _ _ c.if-not-fills.ensures in
+    let b : length c.args.inverse.now ≡ n * n = true-eqb _ _ c.if-not-fills-2.ensures in
+    let t = length-take-le (2 * length c.args.system.now - 0) c.args.work.now (omega arith) in
+    let d = both_blocks n in
+    (a, (t ∙ omega arith, (b, twice_below n 18446744073709551616 (omega arith) (omega arith))))
 
-pub returns-in_default-eliminate : goal.returns-in_default-eliminate
-returns-in_default-eliminate g c =
-    let R = g.F.Ring.ring c.args.field.now in
-    let L = g.met.F.Ring.laws c.args.field.now in
+pub returns : goal.returns
+returns g c =
     let n = c.args.order in
-    let old = c.args.rows.now in
-    let rows = c.put_units.new.rows in
-    let room : Room old n (length c.args.inverse.now) = search rules in
-    let len : length rows ≡ n * (n + n) = omega arith in
+    let a : length c.args.system.now ≡ n * n = true-eqb _ _ c.if-not-fills.ensures in
+    let b : length c.args.inverse.now ≡ n * n = true-eqb _ _ c.if-not-fills-2.ensures in
+    let k = 2 * length c.args.system.now in
+    let t = length-take-le (k - 0) c.args.work.now (omega arith) in
     record {
-      inverse = (λ F. apart R rows n n (record { places = len; codes = augmented_codes R L old rows n c.put_units.ensures len F.codes }) c.in_default-eliminate.ensures.0, refl);
-      rows = λ h. absurd (h room);
-    }
-
-pub returns-in-Ok : goal.returns-in-Ok
-returns-in-Ok g c =
-    let R = g.F.Ring.ring c.args.field.now in
-    let L = g.met.F.Ring.laws c.args.field.now in
-    let n = c.args.order in
-    let old = c.args.rows.now in
-    let rows = c.put_units.new.rows in
-    let new = c.eliminate.new.rows in
-    let block = c.read_right.new.block in
-    let room : Room old n (length c.args.inverse.now) = search rules in
-    let len : length block ≡ n * n = omega arith in
-    let codes = c.in-Some-eliminate.ensures.0.codes in
-    let solved : Reduced R rows n n (Ok c.in-Ok.field-0) new = subst (λ r. Reduced R rows n n r new) c.in-Ok.is c.in-Some-eliminate.ensures.1 in
-    record {
-      inverse = (record { room = room; codes = left_codes_lem R L old rows n c.put_units.ensures codes }, augmented_inverse R L old rows n c.put_units.ensures new block len codes solved c.read_right.ensures);
-      rows = λ h. absurd (h room);
-    }
-
-pub returns-in-Err : goal.returns-in-Err
-returns-in-Err g c =
-    let R = g.F.Ring.ring c.args.field.now in
-    let L = g.met.F.Ring.laws c.args.field.now in
-    let n = c.args.order in
-    let old = c.args.rows.now in
-    let rows = c.put_units.new.rows in
-    let new = c.eliminate.new.rows in
-    let room : Room old n (length c.args.inverse.now) = search rules in
-    let codes = c.in-Some-eliminate.ensures.0.codes in
-    let told : Reduced R rows n n (Err c.in-Err.fault) new = subst (λ r. Reduced R rows n n r new) c.in-Err.is c.in-Some-eliminate.ensures.1 in
-    record {
-      inverse = (record { room = room; codes = left_codes_lem R L old rows n c.put_units.ensures codes }, (augmented_dependent R L old rows n c.put_units.ensures c.in-Err.fault.column told.0, refl));
-      rows = λ h. absurd (h room);
+      inverse = inverts (g.F.Ring.ring c.args.field.now) c.args.system.now n (length c.args.work.now) c.args.inverse.now c.invert_in.result c.invert_in.new.inverse a (omega arith) b c.invert_in.ensures;
+      rest = drop-append-drop (k - 0) c.args.work.now c.invert_in.new.work k (omega arith) (c.invert_in.auto.work ∙ t);
     }

@@ -1,6 +1,6 @@
 use Rattle.std.proofs.Common.{◌+◌, arith}
 use Rattle.matrices.proofs.RowWrites.{row_below}
-use Rattle.matrices.proofs.Blocks.{augmented_more}
+use Rattle.matrices.proofs.Units.{units_more}
 use Rattle.matrices.proofs.systems.put_units.Goals as goal
 
 pub put_unit-requires : goal.put_unit-requires
@@ -10,4 +10,4 @@ put_unit-requires c =
     (omega arith, c.loop-i-test.true)
 
 pub loop-i-preserved : goal.loop-i-preserved
-loop-i-preserved c = augmented_more c.args.rows.now c.loop-i.rows c.put_unit.new.rows c.args.order c.loop-i.i c.loop-i.invariant c.put_unit.ensures
+loop-i-preserved c = units_more c.args.rows.now c.loop-i.rows c.put_unit.new.rows c.args.order c.loop-i.i c.loop-i.invariant c.put_unit.ensures
