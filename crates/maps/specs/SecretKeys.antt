@@ -115,7 +115,7 @@ abbrev pub in_terms : Shape → ℕ → ℕ → ℕ → Bool
 in_terms s l i j = nat_le i j && (nat_le (group_of s j) l && nat_lt (group_of s i) l)
 
 abbrev pub has_term : Shape → ℕ → ℕ → ℕ → Bool
-has_term s f = in_terms s (layer_of s f)
+has_term s f i j = nat_le i j && (nat_le (group_of s j) (layer_of s f) && nat_lt (group_of s i) (layer_of s f))
 
 -- where the coefficient of x(i) x(j) in the central equation f stands in the run
 unfoldable pub central_place : Shape → ℕ → ℕ → ℕ → ℕ
