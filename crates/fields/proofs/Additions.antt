@@ -1,5 +1,5 @@
 -- A multiple of a row added to a row, place by place. Assumes nothing.
-use Rattle.std.proofs.Common.{◌≡◌, ℕ, zero, suc, ◌<◌, ◌≤◌, min, List, [], ◌∷◌, length, get_or, take, set, refl, ap, ◌∙◌, ap₂, le_of_suc-le-suc, not-suc-le-zero, arith}
+use Rattle.std.proofs.Common.{◌≡◌, ℕ, zero, suc, ◌<◌, ◌≤◌, min, List, [], ◌∷◌, length, get_or, take, set, refl, ap, le_of_suc-le-suc, not-suc-le-zero, arith}
 use Rattle.algebra.specs.Rings.{Ring}
 use Rattle.fields.specs.Rows.{plus_times}
 

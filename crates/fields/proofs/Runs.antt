@@ -1,10 +1,10 @@
 -- Packed runs of codes, read and written. Assumes nothing.
-use Rattle.std.proofs.Common.{◌≡◌, ℕ, zero, suc, ◌+◌, ◌*◌, ◌/◌, ◌%◌, ◌<◌, ◌≤◌, min, Bool, true, false, cond, eqb, ltb, ◌≢◌, ◌⊎◌, List, [], ◌∷◌, map, length, get_or, drop, set, Some, None, Option, sym, refl, ap, ◌∙◌, subst, ap₂, inl, inr, le_of_suc-le-suc, not-suc-le-zero, add-zero, zero-add, arith, w8, Fits, le-ltb, lt-ltb, eq-eqb, ne_eqb}
-use Rattle.std.specs.List.{range_with_len, AllByRecursion}
+use Rattle.std.proofs.Common.{◌≡◌, ℕ, zero, suc, ◌+◌, ◌*◌, ◌/◌, ◌%◌, ◌<◌, ◌≤◌, min, cond, eqb, ltb, ◌≢◌, ◌⊎◌, List, [], ◌∷◌, length, get_or, drop, set, Some, None, Option, sym, refl, ap, ◌∙◌, subst, ap₂, inl, inr, le_of_suc-le-suc, not-suc-le-zero, add-zero, zero-add, arith, w8, Fits, le-ltb, lt-ltb, eq-eqb, ne_eqb}
+use Rattle.std.specs.List.{AllByRecursion}
 use Rattle.std.proofs.lemmas.List.{get_or-drop, get_or_past, drop_all, ext_get_or, length-set, get_or-set_same, get_or-set_other, set_past}
 use Rattle.std.proofs.lemmas.Bool.{cond-true, cond-false, cases_lt, cases_eq}
 use Rattle.std.proofs.lemmas.List.FromFn.{length-map-range_with_len, get_or-map-range_with_len}
-use Rattle.fields.specs.Packing.{packed_length, half, code_at, byte_at, with_half, put_code, codes_from, in_pairs, packed, or_else, first_foreign, ReadBack, RunsReadBack}
+use Rattle.fields.specs.Packing.{packed_length, half, code_at, byte_at, with_half, put_code, codes_from, in_pairs, packed, or_else, first_foreign, RunsReadBack}
 
 pub wide_at : (q : ℕ) (run : List ℕ) (k : ℕ) → 16 < q → code_at q run k ≡ get_or run k 0
 unfolding code_at

@@ -1,5 +1,5 @@
 -- Refusals: what each case says, and the order in which a call's tests are made.
-use Rattle.std.specs.Prelude.{◌≡◌, ℕ, ◌+◌, Bool, true, false, cond, not, List, [], ◌∷◌, ◌++◌, map, length, drop, Some, None, Ok, Err, Option, Result, ◌==◌, slice_index}
+use Rattle.std.specs.Prelude.{◌≡◌, ℕ, ◌+◌, Bool, cond, not, List, [], ◌∷◌, ◌++◌, map, length, drop, Some, None, Ok, Err, Option, Result, ◌==◌, slice_index}
 use Rattle.std.specs.Option.{option_map}
 use Rattle.fields.specs.Packing.{packed_length, code_at, or_else, first_foreign}
 use Rattle.keys.specs.declared.refusals.Buffer.{Buffer}

@@ -1,5 +1,5 @@
 -- The worked cases, computed. Assumes nothing.
-use Rattle.std.proofs.Common.{◌≡◌, ℕ, ◌+◌, ◌*◌, ◌<◌, Bool, true, false, not, ◌&&◌, ◌||◌, eqb, leb, List, [], ◌∷◌, drop, refl, arith, eqb-true, le-leb}
+use Rattle.std.proofs.Common.{◌≡◌, ℕ, ◌+◌, ◌*◌, ◌<◌, Bool, true, false, not, ◌||◌, eqb, leb, List, [], ◌∷◌, drop, refl, arith, eqb-true, le-leb}
 use Rattle.std.proofs.lemmas.Bool.{false≢true}
 use Rattle.algebra.specs.Forms.{form_at}
 use Rattle.algebra.specs.Modular.{modular}
@@ -11,7 +11,7 @@ use Rattle.fields.specs.Packing.{packed_length, code_at, codes_from, first_forei
 use Rattle.matrices.specs.QuadraticSystems.{pairs_before, pair_at, coefficient}
 use Rattle.keys.specs.Shapes.{layer_codes, secret_codes, public_codes}
 use Rattle.keys.specs.Heads.{shape_of}
-use Rattle.maps.specs.Verdicts.{Satisfies, Valid}
+use Rattle.maps.specs.Verdicts.{Valid}
 use Rattle.maps.specs.SecretKeys.{block, outer_mask, inner_mask, terms_before, term_place, central_place, central}
 use Rattle.maps.specs.PublicKeys.{public_entry, Published}
 use Rattle.maps.specs.Worked.{public_key31, secret_key31, WorkedCases}

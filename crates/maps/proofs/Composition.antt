@@ -1,20 +1,19 @@
 -- The public key's value is S after F after T. Assumes nothing.
-use Rattle.std.proofs.Common.{◌≡◌, ℕ, ◌+◌, ◌-◌, ◌*◌, ◌<◌, ◌≤◌, List, length, get_or, take, drop, sym, refl, ap, ◌∙◌, subst, ap₂, arith}
+use Rattle.std.proofs.Common.{◌≡◌, ℕ, ◌<◌, List, get_or, take, drop, sym, ap, ◌∙◌, subst, arith}
 use Rattle.std.proofs.lemmas.List.{get_or-take}
 use Rattle.algebra.specs.Rings.{Ring, RingLaws}
-use Rattle.algebra.specs.Forms.{form_at}
 use Rattle.algebra.specs.Matrices.{applied, public_form}
 use Rattle.algebra.proofs.SumLaws.{form_upper}
 use Rattle.algebra.proofs.PublicMap.{public_map_lem, public_upper}
 use Rattle.fields.specs.Packing.{code_at}
-use Rattle.matrices.specs.QuadraticSystems.{pairs_before, pair_at, coefficient}
+use Rattle.matrices.specs.QuadraticSystems.{pair_at, coefficient}
 use Rattle.matrices.proofs.Terms.{coefficient_there, coefficient_below}
 use Rattle.keys.specs.declared.shapes.Shape.{Shape}
 use Rattle.keys.specs.Shapes.{variables, equations}
-use Rattle.keys.specs.Heads.{shape_of, head_of}
+use Rattle.keys.specs.Heads.{shape_of}
 use Rattle.maps.specs.Verdicts.{Satisfies, Valid}
 use Rattle.maps.specs.SecretKeys.{outer_mask, inner_mask, central}
-use Rattle.maps.specs.PublicKeys.{public_entry, Published, composed, EveryPoint, ValidMeans}
+use Rattle.maps.specs.PublicKeys.{public_entry, EveryPoint, ValidMeans}
 
 module _ (R : Ring) (L : RingLaws R) where
   pub every_point_lem : EveryPoint R

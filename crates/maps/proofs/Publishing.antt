@@ -1,5 +1,5 @@
 -- The places of a public key's codes, written one after the other. Assumes nothing.
-use Rattle.std.proofs.Common.{◌≡◌, ℕ, zero, suc, ◌+◌, ◌-◌, ◌*◌, ◌/◌, ◌%◌, ◌<◌, ◌≤◌, Bool, true, false, cond, ◌&&◌, eqb, ltb, leb, ◌≢◌, ◌⊎◌, List, length, get_or, replicate, sym, refl, ap, ◌∙◌, subst, ap₂, inl, inr, not-suc-le-zero, mul-le-mul_right, suc-mul, arith}
+use Rattle.std.proofs.Common.{◌≡◌, ℕ, zero, suc, ◌+◌, ◌-◌, ◌*◌, ◌/◌, ◌%◌, ◌<◌, ◌≤◌, Bool, true, false, cond, eqb, ltb, leb, ◌≢◌, List, length, get_or, replicate, sym, refl, ap, ◌∙◌, subst, ap₂, inl, inr, not-suc-le-zero, mul-le-mul_right, suc-mul, arith}
 use Rattle.std.proofs.lemmas.Bool.{cases_lt, cases_eq, cases_order, cond_both, and_parts, ltb-true, leb-true}
 use Rattle.std.proofs.lemmas.List.{get_or-replicate, get_or_past, length-replicate}
 use Rattle.algebra.specs.Rings.{Ring, RingLaws}
@@ -9,7 +9,7 @@ use Rattle.algebra.proofs.SumLaws.{sum_ext}
 use Rattle.fields.specs.Packing.{packed_length, half, code_at}
 use Rattle.fields.proofs.Runs.{wide_at, narrow_at, wide_length, narrow_length}
 use Rattle.matrices.specs.Arrays.{entry}
-use Rattle.matrices.specs.MatrixProducts.{Shapes, Multiplied, TransposedShapes, TransposedMultiplied}
+use Rattle.matrices.specs.MatrixProducts.{Multiplied, TransposedMultiplied}
 use Rattle.matrices.specs.QuadraticSystems.{pairs_before, pairs, pair_at}
 use Rattle.matrices.proofs.Terms.{pairs_closed}
 use Rattle.keys.specs.declared.shapes.Shape.{Shape}

@@ -1,5 +1,5 @@
 -- Arrays of two blocks of n columns. Assumes nothing.
-use Rattle.std.proofs.Common.{◌≡◌, ℕ, zero, suc, ◌+◌, ◌-◌, ◌*◌, ◌<◌, ◌≤◌, ◌⊎◌, List, length, get_or, drop, set, replicate, sym, refl, ap, ◌∙◌, subst, inl, inr, suc-mul, mul-add, arith, length-drop, length-take-le}
+use Rattle.std.proofs.Common.{◌≡◌, ℕ, zero, suc, ◌+◌, ◌-◌, ◌*◌, ◌<◌, ◌≤◌, List, length, get_or, drop, set, replicate, sym, refl, ap, ◌∙◌, subst, inl, inr, suc-mul, mul-add, arith, length-drop, length-take-le}
 use native.Mathlib.Decide.{dec_lt, ℕ_discrete}
 use lib.ListN.{length-replicate}
 use borrow.Rule.Slice.PartMut.{put_mid, same_len_mid}
@@ -7,7 +7,7 @@ use Rattle.std.specs.List.{between}
 use Rattle.std.proofs.lemmas.List.Edits.{length-between, get_or-between}
 use Rattle.std.proofs.lemmas.List.{get_or_past, get_or-set_same, get_or-set_other, get_or-replicate}
 use Rattle.algebra.specs.Rings.{Ring, RingLaws}
-use Rattle.algebra.specs.Systems.{unit_matrix, FirstDependent, Solution, Inverse}
+use Rattle.algebra.specs.Systems.{unit_matrix, FirstDependent}
 use Rattle.algebra.proofs.Systems.{unit_here, unit_off, unit_code, solution_ext, dependent_ext, inverse}
 use Rattle.matrices.specs.Arrays.{entry, Codes, Off, Written, Augmented, RightOf}
 use Rattle.matrices.specs.Linear.{Solved, Inverted}

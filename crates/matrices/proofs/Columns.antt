@@ -1,5 +1,5 @@
 -- One column of an array after the other. Assumes nothing.
-use Rattle.std.proofs.Common.{◌≡◌, ℕ, ◌+◌, ◌-◌, ◌*◌, ◌<◌, ◌≤◌, ◌⊎◌, List, length, get_or, Some, None, Ok, Err, Option, Result, sym, refl, ap, ◌∙◌, subst, inl, inr, add-zero, arith}
+use Rattle.std.proofs.Common.{◌≡◌, ℕ, ◌+◌, ◌-◌, ◌*◌, ◌<◌, ◌≤◌, List, length, Some, None, Ok, Err, Option, Result, sym, refl, ap, ◌∙◌, subst, inl, inr, add-zero, arith}
 use native.Mathlib.Decide.{dec_lt}
 use Rattle.algebra.specs.Rings.{Ring, RingLaws}
 use Rattle.algebra.specs.Systems.{Vector, Solves, FirstDependent, Solution}
@@ -7,7 +7,7 @@ use Rattle.algebra.proofs.Systems.{Kept, kept_more, kept_unit, kept_solution, de
 use Rattle.matrices.specs.declared.elimination.Dependent.{Dependent}
 use Rattle.matrices.specs.declared.elimination.Lead.{Lead}
 use Rattle.matrices.specs.Arrays.{entry, Codes, Swapped, Scaled, Cleared}
-use Rattle.matrices.specs.Linear.{Found, Fits, Misfit, Solved, Eliminated, Determined, Alike, FaultsAreSingular, Solving, SolvesOne, InverseFits, Inverts, InvertsIn}
+use Rattle.matrices.specs.Linear.{Found, Fits, Misfit, Solved, Eliminated, Determined, FaultsAreSingular, Solving, SolvesOne, Inverts, InvertsIn}
 use Rattle.matrices.proofs.RowWrites.{row_off, written_codes, swapped_codes}
 
 pub column_done : (R : Ring) (L : RingLaws R) (n w c : ℕ) (old rows a b new : List ℕ) (p : Lead) → c < n → c < w → Codes R rows → Kept R L n w c (entry old w) (entry rows w) → Found R rows n w c c p → Swapped rows a w (c * w) (p.row * w) → Scaled R a b w (c * w) p.inverse → Cleared R b new n w c → Codes R new × Kept R L n w (c + 1) (entry old w) (entry new w)

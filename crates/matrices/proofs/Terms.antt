@@ -1,5 +1,5 @@
 -- Sums of the terms of a quadratic form, in the order in which they are added up. Assumes nothing.
-use Rattle.std.proofs.Common.{◌≡◌, ℕ, zero, suc, ◌+◌, ◌-◌, ◌*◌, ◌<◌, ◌≤◌, cond, leb, List, length, get_or, sym, refl, ap, ◌∙◌, ap₂, suc-mul, mul_comm, add-mul, mul-le-mul, one-mul, zero-add, zero-mul, arith, le-leb}
+use Rattle.std.proofs.Common.{◌≡◌, ℕ, zero, suc, ◌+◌, ◌-◌, ◌*◌, ◌<◌, ◌≤◌, leb, List, length, get_or, sym, refl, ap, ◌∙◌, ap₂, suc-mul, mul_comm, add-mul, mul-le-mul, one-mul, zero-add, zero-mul, arith, le-leb}
 use borrow.Author.Tests.{lt-leb}
 use Rattle.std.proofs.lemmas.Bool.{cond-true, cond-false}
 use Rattle.std.proofs.lemmas.List.FromFn.{length-map-range_with_len, get_or-map-range_with_len}

@@ -1,5 +1,5 @@
 -- Products of matrices that are stored row by row.
-use Rattle.std.specs.Prelude.{◌≡◌, ℕ, ◌+◌, ◌*◌, ◌<◌, ◌≤◌, Bool, true, false, List, length, ◌≢◌, slice_index}
+use Rattle.std.specs.Prelude.{◌≡◌, ℕ, ◌*◌, ◌<◌, ◌≤◌, Bool, true, false, List, length, ◌≢◌, slice_index}
 use Rattle.algebra.specs.Rings.{Ring}
 use Rattle.algebra.specs.Sums.{dot_of}
 use Rattle.matrices.specs.Arrays.{entry}

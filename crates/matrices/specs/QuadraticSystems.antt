@@ -1,5 +1,5 @@
 -- Systems of m quadratic forms in n variables, as a packed run of codes: for each pair i ≤ j, by i, then j, the m coefficients of x(i) x(j).
-use Rattle.std.specs.Prelude.{◌≡◌, ℕ, zero, suc, ◌+◌, ◌-◌, ◌*◌, ◌≤◌, Bool, true, false, cond, ◌&&◌, List, map, length, nat_le, slice_index}
+use Rattle.std.specs.Prelude.{◌≡◌, ℕ, zero, suc, ◌+◌, ◌-◌, ◌*◌, Bool, true, false, cond, ◌&&◌, List, map, length, nat_le, slice_index}
 use Rattle.std.specs.List.{range_with_len}
 use Rattle.algebra.specs.Rings.{Ring}
 use Rattle.algebra.specs.Sums.{sum}

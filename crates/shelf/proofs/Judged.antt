@@ -1,5 +1,5 @@
 -- The tests of a call, one by one and one after the other. Assumes nothing.
-use Rattle.std.proofs.Common.{◌≡◌, ℕ, ◌+◌, ◌*◌, ◌<◌, ◌≤◌, Bool, true, false, not, eqb, leb, List, [], ◌∷◌, ◌++◌, map, length, get_or, drop, replicate, Some, None, Option, Result, sym, refl, ap, ◌∙◌, subst, ap₂, append_assoc, zero-add, arith}
+use Rattle.std.proofs.Common.{◌≡◌, ℕ, ◌+◌, ◌*◌, ◌<◌, ◌≤◌, Bool, true, not, eqb, leb, List, ◌++◌, map, length, get_or, drop, replicate, Some, None, Option, Result, sym, refl, ap, ◌∙◌, subst, ap₂, append_assoc, zero-add, arith}
 use Rattle.std.specs.Option.{option_map}
 use Rattle.std.proofs.lemmas.Bool.{eqb-true, leb-true, not-false, false≢true}
 use Rattle.fields.specs.Packing.{packed_length, code_at, first_foreign}
@@ -11,7 +11,7 @@ use Rattle.keys.specs.declared.refusals.Refusal.{Refusal}
 use Rattle.keys.specs.declared.refusals.Refusal.TheVariants.{WrongLength, ForeignCode, OddShape, StrangeStart}
 use Rattle.keys.specs.Shapes.{variables, equations, secret_codes, place_length, sign_workspace, within}
 use Rattle.keys.specs.Heads.{shape_of, head_of, head_tests, key_length}
-use Rattle.keys.specs.Refusals.{Told, told, test, Lent, first, packed_run, byte_run, space, length_test, codes_test, buffer_tests, Answers}
+use Rattle.keys.specs.Refusals.{Told, told, test, Lent, first, packed_run, byte_run, length_test, codes_test, Answers}
 use Rattle.keys.proofs.Orders.{past, early, length_same, codes_same, test_none, all_none, not_some, not_none}
 use Rattle.shelf.specs.declared.state.Inner.{Inner}
 use Rattle.shelf.specs.Steps.{early_tests, all_tests, key_buffer, strip_buffer, work_buffer, prepare_read, prepare_buffers, prepare_tests, sign_read, sign_buffers, end_tests, is_number, Left}

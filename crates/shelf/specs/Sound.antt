@@ -1,5 +1,5 @@
 -- What every state of a shelf keeps.
-use Rattle.std.specs.Prelude.{◌≡◌, ℕ, Some, None, Option}
+use Rattle.std.specs.Prelude.{ℕ, Some, None, Option}
 
 -- how many starts are in hand
 abbrev pub handed : Option ℕ → ℕ

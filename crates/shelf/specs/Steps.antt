@@ -1,5 +1,5 @@
 -- What each call of a shelf answers, and leaves in the shelf, the strip and the lent buffers.
-use Rattle.std.specs.Prelude.{◌≡◌, ℕ, ◌+◌, ◌-◌, ◌*◌, ◌%◌, ◌<◌, ◌≤◌, Bool, true, false, not, ◌&&◌, ◌⊎◌, List, [], ◌∷◌, ◌++◌, map, length, replicate, is_some, Some, None, Ok, Err, Option, Result, ◌==◌, nat_le}
+use Rattle.std.specs.Prelude.{◌≡◌, ℕ, ◌+◌, ◌-◌, ◌*◌, ◌%◌, Bool, true, false, not, ◌&&◌, ◌⊎◌, List, [], ◌∷◌, ◌++◌, map, length, replicate, is_some, Some, None, Ok, Err, Option, Result, ◌==◌, nat_le}
 use borrow.Rule.Slice.PartMut.{put_mid}
 use Rattle.std.specs.List.{between}
 use Rattle.algebra.specs.Rings.{Ring}
@@ -10,7 +10,7 @@ use Rattle.keys.specs.declared.refusals.Buffer.TheVariants.{Key, Strip, Digest, 
 use Rattle.keys.specs.declared.refusals.Refusal.{Refusal}
 use Rattle.keys.specs.declared.refusals.Refusal.TheVariants.{BadShelf, WornOut, Full, NoneWaiting, HandFull, StrangeStart}
 use Rattle.keys.specs.Shapes.{variables, equations, secret_codes, place_length, sign_workspace, up_to}
-use Rattle.keys.specs.Refusals.{Told, told, test, first, Lent, packed_run, byte_run, space, length_test, buffer_tests, Answers}
+use Rattle.keys.specs.Refusals.{Told, told, test, first, Lent, packed_run, byte_run, space, length_test, buffer_tests}
 use Rattle.keys.specs.Heads.{shape_of, head_of, head_tests}
 use Rattle.signing.specs.Layers.{system_entry}
 use Rattle.signing.specs.Starts.{Holds, Finished, half_point, packed_vector}

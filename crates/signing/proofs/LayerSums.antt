@@ -1,18 +1,17 @@
 -- The sums that a layer's system is made of, term by term. Assumes nothing.
-use Rattle.std.proofs.Common.{◌≡◌, ℕ, suc, ◌+◌, ◌<◌, ◌≤◌, false, List, length, get_or, sym, refl, ap, ◌∙◌, ap₂, add-one, arith}
+use Rattle.std.proofs.Common.{◌≡◌, ℕ, ◌+◌, ◌<◌, List, length, get_or, sym, ap, ◌∙◌, ap₂, add-one, arith}
 use native.Mathlib.Decide.{dec_lt}
 use Rattle.std.proofs.lemmas.Bool.{cond-false}
 use Rattle.std.proofs.lemmas.Bool.Decides.{nat_tests}
 use Rattle.std.proofs.lemmas.List.{get_or_past}
 use Rattle.algebra.specs.Rings.{Ring, RingLaws}
 use Rattle.algebra.specs.Sums.{sum}
-use Rattle.algebra.proofs.Codes.{nil_code, sum_code, mul_zero, zero_mul}
+use Rattle.algebra.proofs.Codes.{nil_code, zero_mul}
 use Rattle.fields.specs.Rows.{plus_times}
 use Rattle.fields.proofs.Additions.{get_or_plus}
 use Rattle.matrices.proofs.Terms.{sum_more, sum_start}
 use Rattle.keys.specs.declared.shapes.Shape.{Shape}
 use Rattle.maps.specs.SecretKeys.{has_term, central}
-use Rattle.signing.specs.Layers.{pairs_from}
 
 -- no term has its second variable before its first
 pub central_below : (q : ℕ) (run : List ℕ) (s : Shape) (f i j : ℕ) → j < i → central q run s f i j ≡ 0

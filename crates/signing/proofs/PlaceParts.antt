@@ -1,5 +1,5 @@
 -- The parts of a place, and the systems that are formed for it. Assumes nothing.
-use Rattle.std.proofs.Common.{◌≡◌, ℕ, ◌+◌, ◌-◌, ◌*◌, ◌<◌, ◌≤◌, max, Bool, true, false, List, length, get_or, take, drop, sym, refl, ap, ◌∙◌, subst, inl, inr, mul_comm, mul-le-mul, zero-add, arith, length-drop, length-take-le}
+use Rattle.std.proofs.Common.{◌≡◌, ℕ, ◌+◌, ◌-◌, ◌*◌, ◌<◌, ◌≤◌, max, Bool, true, false, List, length, get_or, take, drop, sym, ap, ◌∙◌, subst, inl, inr, mul_comm, mul-le-mul, zero-add, arith, length-drop, length-take-le}
 use Rattle.std.proofs.lemmas.Bool.Decides.{nat_tests}
 use Rattle.algebra.specs.Rings.{Ring, RingLaws}
 use Rattle.algebra.specs.Systems.{Inverse, FirstDependent}

@@ -1,5 +1,5 @@
 -- The linear systems of a secret key's layers. The run is the key's after its head; rows, columns and variables are counted from 0, layers from 1.
-use Rattle.std.specs.Prelude.{◌≡◌, ℕ, ◌+◌, ◌*◌, ◌<◌, ◌≤◌, Bool, true, false, List, length, ◌≢◌, slice_index}
+use Rattle.std.specs.Prelude.{◌≡◌, ℕ, ◌*◌, ◌<◌, ◌≤◌, Bool, true, false, List, length, ◌≢◌, slice_index}
 use Rattle.algebra.specs.Rings.{Ring}
 use Rattle.algebra.specs.Sums.{sum}
 use Rattle.algebra.specs.Layers.{layer_entry, layer_constant}

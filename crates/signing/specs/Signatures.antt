@@ -10,7 +10,7 @@ use Rattle.fields.specs.Packing.{packed_length, code_at}
 use Rattle.matrices.specs.QuadraticSystems.{coefficient}
 use Rattle.keys.specs.Shapes.{variables, equations}
 use Rattle.keys.specs.Heads.{shape_of, head_of}
-use Rattle.maps.specs.SecretKeys.{outer_mask, inner_mask, outer_inverse, central}
+use Rattle.maps.specs.SecretKeys.{outer_mask, inner_mask, central}
 use Rattle.maps.specs.Verdicts.{Verdict}
 use Rattle.maps.specs.PublicKeys.{Published, PublicMade}
 use Rattle.signing.specs.Layers.{system_entry}

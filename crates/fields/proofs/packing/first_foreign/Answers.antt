@@ -1,4 +1,4 @@
-use Rattle.std.proofs.Common.{◌≡◌, ◌<◌, ◌≤◌, sym, ap, ◌∙◌, inl, inr, add-one, arith}
+use Rattle.std.proofs.Common.{◌<◌, ◌≤◌, sym, ◌∙◌, inl, inr, add-one, arith}
 use Rattle.fields.specs.Packing.{code_at}
 use Rattle.fields.proofs.Runs.{foreign_more, foreign_found, none_foreign, foreign_none, full_16, full_256}
 use Rattle.fields.proofs.packing.first_foreign.Goals as goal

@@ -1,4 +1,4 @@
-use Rattle.std.proofs.Common.{◌≡◌, sym, ◌∙◌, arith}
+use Rattle.std.proofs.Common.{sym, arith}
 use Rattle.fields.proofs.Runs.{wide_length, narrow_length}
 use Rattle.fields.proofs.packing.packed_len.Goals as goal
 

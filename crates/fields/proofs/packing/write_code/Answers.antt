@@ -1,4 +1,4 @@
-use Rattle.std.proofs.Common.{◌≡◌, ℕ, ◌+◌, ◌*◌, ◌/◌, ◌%◌, ◌<◌, ◌≤◌, get_or, set, sym, ap, ◌∙◌, arith, ltb-false, ltb-true}
+use Rattle.std.proofs.Common.{◌≡◌, ◌+◌, ◌*◌, ◌/◌, ◌%◌, ◌<◌, ◌≤◌, get_or, set, sym, ap, ◌∙◌, arith, ltb-false, ltb-true}
 use Rattle.fields.specs.Packing.{byte_at}
 use Rattle.fields.proofs.Runs.{wide_byte, narrow_byte, with_low, with_high, wide_put, narrow_put, put_past}
 use Rattle.fields.proofs.packing.write_code.Goals as goal

@@ -1,4 +1,4 @@
-use Rattle.std.proofs.Common.{◌≡◌, ℕ, ◌+◌, ◌*◌, ◌<◌, length, get_or, sym, ap, ◌∙◌, ap₂, mul-le-mul, arith}
+use Rattle.std.proofs.Common.{◌≡◌, ◌+◌, ◌*◌, ◌<◌, length, get_or, sym, ap, ◌∙◌, ap₂, mul-le-mul, arith}
 use Rattle.std.proofs.lemmas.List.{get_or-replicate}
 use Rattle.fields.specs.Packing.{code_at}
 use Rattle.maps.specs.SecretKeys.{group_size}

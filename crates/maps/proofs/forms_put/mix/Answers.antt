@@ -1,4 +1,4 @@
-use Rattle.std.proofs.Common.{◌≡◌, ℕ, suc, ◌+◌, ◌*◌, ◌<◌, ◌≤◌, ap, ◌∙◌, mul-le-mul_right, suc-mul, mul-le-mul, arith}
+use Rattle.std.proofs.Common.{suc, ◌+◌, ◌*◌, ◌≤◌, mul-le-mul_right, suc-mul, mul-le-mul, arith}
 use Rattle.matrices.specs.Arrays.{entry}
 use Rattle.maps.proofs.Publishing.{packed_more, mixed_next}
 use Rattle.maps.proofs.forms_put.mix.Goals as goal

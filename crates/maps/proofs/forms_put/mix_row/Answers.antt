@@ -1,7 +1,6 @@
-use Rattle.std.proofs.Common.{◌≡◌, ℕ, ◌+◌, ◌-◌, ◌*◌, ◌<◌, ◌≤◌, Bool, true, false, List, length, get_or, take, sym, ap, ◌∙◌, ap₂, inl, inr, arith}
+use Rattle.std.proofs.Common.{◌≡◌, ℕ, ◌+◌, ◌-◌, length, take, ap, ◌∙◌, inl, inr, arith}
 use Rattle.std.proofs.lemmas.List.{length-replicate, length-take-le}
 use Rattle.fields.specs.Packing.{packed_length, codes_from}
-use Rattle.matrices.specs.Arrays.{entry}
 use Rattle.maps.proofs.Mixing.{applied_there, applied_small}
 use Rattle.maps.proofs.forms_put.mix_row.Goals as goal
 

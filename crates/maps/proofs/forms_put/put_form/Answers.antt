@@ -1,4 +1,4 @@
-use Rattle.std.proofs.Common.{◌≡◌, ℕ, ◌+◌, ◌*◌, ◌/◌, ◌<◌, ◌≤◌, length, sym, ap, ◌∙◌, subst, ap₂, arith}
+use Rattle.std.proofs.Common.{◌≡◌, ℕ, ◌+◌, ◌*◌, ◌<◌, sym, ◌∙◌, subst, ap₂, arith}
 use Rattle.algebra.specs.Matrices.{folded}
 use Rattle.matrices.specs.Arrays.{entry}
 use Rattle.matrices.specs.QuadraticSystems.{pairs, pair_at}

@@ -1,4 +1,4 @@
-use Rattle.std.proofs.Common.{◌≡◌, ◌<◌, ◌≤◌, length}
+use Rattle.std.proofs.Common.{◌≡◌, ◌<◌, ◌≤◌}
 use Rattle.algebra.specs.Matrices.{folded}
 use Rattle.matrices.specs.Arrays.{entry}
 use Rattle.matrices.specs.QuadraticSystems.{pair_at}

@@ -1,4 +1,4 @@
-use Rattle.std.proofs.Common.{◌≡◌, ap, ◌∙◌, arith}
+use Rattle.std.proofs.Common.{ap, ◌∙◌, arith}
 use Rattle.algebra.specs.Masks.{negated}
 use Rattle.maps.specs.SecretKeys.{inner_inverse}
 use Rattle.maps.proofs.MaskRows.{t_one, t_left, t_first, t_second, t_zero, t_third}

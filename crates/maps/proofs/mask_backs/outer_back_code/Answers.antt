@@ -1,4 +1,4 @@
-use Rattle.std.proofs.Common.{◌≡◌, ap, ◌∙◌, arith}
+use Rattle.std.proofs.Common.{ap, ◌∙◌, arith}
 use Rattle.algebra.specs.Masks.{negated}
 use Rattle.maps.specs.SecretKeys.{outer_inverse}
 use Rattle.maps.proofs.MaskRows.{s_one, s_zero, s_block}

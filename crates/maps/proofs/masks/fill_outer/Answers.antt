@@ -1,4 +1,4 @@
-use Rattle.std.proofs.Common.{◌≡◌, ℕ, ◌+◌, ◌*◌, ◌≤◌, length, ap, ◌∙◌, ap₂, arith}
+use Rattle.std.proofs.Common.{ℕ, ◌+◌, ◌*◌, ◌≤◌, length, ◌∙◌, ap₂, arith}
 use Rattle.matrices.proofs.RowWrites.{row_below}
 use Rattle.std.proofs.lemmas.List.Edits.{length-between}
 use Rattle.keys.specs.Shapes.{equations}

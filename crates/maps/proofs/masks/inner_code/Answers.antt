@@ -1,4 +1,4 @@
-use Rattle.std.proofs.Common.{◌≡◌, ◌∙◌, arith}
+use Rattle.std.proofs.Common.{◌∙◌, arith}
 use Rattle.maps.specs.SecretKeys.{inner_mask}
 use Rattle.maps.proofs.MaskRows.{t_one, t_left, t_first, t_second, t_zero, t_third}
 use Rattle.maps.proofs.masks.inner_code.Goals as goal

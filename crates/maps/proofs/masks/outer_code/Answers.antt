@@ -1,4 +1,4 @@
-use Rattle.std.proofs.Common.{◌≡◌, ◌∙◌, arith}
+use Rattle.std.proofs.Common.{◌∙◌, arith}
 use Rattle.maps.specs.SecretKeys.{outer_mask}
 use Rattle.maps.proofs.MaskRows.{within_last, s_one, s_zero, s_block}
 use Rattle.maps.proofs.masks.outer_code.Goals as goal

@@ -1,4 +1,4 @@
-use Rattle.std.proofs.Common.{◌≡◌, ◌≤◌, List, [], length, drop, replicate, Some, None, Ok, Err, Option, sym, refl, ap, ◌∙◌, subst}
+use Rattle.std.proofs.Common.{◌≡◌, ◌≤◌, List, [], length, drop, replicate, Some, Option, sym, refl, ap, ◌∙◌, subst}
 use Rattle.std.proofs.lemmas.List.{take_rest}
 use Rattle.std.proofs.lemmas.Bool.{false≢true}
 use Rattle.std.proofs.lemmas.Result.{err_from_is_err_and}
@@ -8,7 +8,7 @@ use Rattle.keys.specs.Shapes.{within, secret_codes, public_codes, key_workspace}
 use Rattle.keys.specs.Heads.{shape_of, head_of, key_length}
 use Rattle.keys.specs.Refusals.{Told, told, first}
 use Rattle.keys.proofs.Orders.{also, codes_same, not_some, not_none}
-use Rattle.maps.proofs.PublicTests.{Early, early_facts, early_first, late}
+use Rattle.maps.proofs.PublicTests.{early_facts, early_first, late}
 use Rattle.maps.proofs.public_keys.public_key.Goals as goal
 
 pub publish-requires : goal.publish-requires

@@ -1,4 +1,4 @@
-use Rattle.std.proofs.Common.{◌≡◌, ℕ, ◌+◌, ◌-◌, ◌*◌, ◌/◌, ◌<◌, ◌≤◌, List, length, take, sym, ap, ◌∙◌, subst, ap₂, mul-le-mul, arith}
+use Rattle.std.proofs.Common.{◌≡◌, ℕ, ◌+◌, ◌-◌, ◌*◌, ◌/◌, ◌≤◌, length, take, sym, ap, ◌∙◌, subst, ap₂, mul-le-mul, arith}
 use Rattle.std.proofs.lemmas.List.{length-take-le}
 use Rattle.fields.specs.Packing.{packed_length}
 use Rattle.matrices.specs.Arrays.{entry}
@@ -6,7 +6,7 @@ use Rattle.matrices.specs.QuadraticSystems.{pairs}
 use Rattle.keys.specs.Shapes.{variables, equations}
 use Rattle.maps.specs.SecretKeys.{outer_mask}
 use Rattle.maps.specs.PublicKeys.{Mixed}
-use Rattle.maps.proofs.Publishing.{Limits, limits, pairs_half, mixed_like}
+use Rattle.maps.proofs.Publishing.{limits, pairs_half, mixed_like}
 use Rattle.maps.proofs.public_runs.mix_outer.Goals as goal
 
 pub mix-requires : goal.mix-requires

@@ -1,5 +1,4 @@
-use Rattle.std.proofs.Common.{◌≡◌, ℕ, ◌+◌, ◌*◌, ◌<◌, ◌≤◌, List, length, sym, ap, ◌∙◌, subst, ap₂, arith}
-use Rattle.algebra.specs.Sums.{sum}
+use Rattle.std.proofs.Common.{◌≡◌, ℕ, ◌*◌, ◌≤◌, sym, ap, ◌∙◌, subst, ap₂, arith}
 use Rattle.algebra.specs.Matrices.{folded}
 use Rattle.algebra.proofs.Codes.{sum_code}
 use Rattle.fields.specs.Packing.{packed_length}
@@ -7,7 +6,7 @@ use Rattle.matrices.specs.Arrays.{entry}
 use Rattle.matrices.specs.QuadraticSystems.{pairs}
 use Rattle.keys.specs.Shapes.{variables, equations}
 use Rattle.maps.specs.PublicKeys.{central_form, FormPut}
-use Rattle.maps.proofs.Publishing.{Limits, limits, form_like, multiplied_there, transposed_there, central_for}
+use Rattle.maps.proofs.Publishing.{limits, form_like, multiplied_there, transposed_there, central_for}
 use Rattle.maps.proofs.public_runs.put_central.Goals as goal
 
 square : (n k a : ℕ) → n ≡ k → a ≡ k * k → a ≡ n * n

@@ -1,11 +1,8 @@
-use Rattle.std.proofs.Common.{◌≡◌, ℕ, ◌+◌, ◌-◌, ◌*◌, ◌/◌, ◌<◌, ◌≤◌, List, length, take, replicate, sym, refl, ap, ◌∙◌, subst, ap₂, not-suc-le-zero, mul-le-mul, arith}
-use Rattle.std.proofs.lemmas.List.{length-take-le}
-use Rattle.fields.specs.Packing.{packed_length, code_at}
-use Rattle.matrices.specs.Arrays.{entry}
-use Rattle.matrices.specs.QuadraticSystems.{pairs, pair_at}
+use Rattle.std.proofs.Common.{◌≡◌, ℕ, ◌*◌, ◌<◌, ◌≤◌, List, length, replicate, refl, ap, ◌∙◌, not-suc-le-zero, mul-le-mul, arith}
+use Rattle.fields.specs.Packing.{code_at}
+use Rattle.matrices.specs.QuadraticSystems.{pairs}
 use Rattle.keys.specs.Shapes.{variables, equations, public_codes}
-use Rattle.maps.specs.PublicKeys.{central_form, Mixed}
-use Rattle.maps.proofs.Publishing.{Limits, limits, code_zeros, forms_next, over_next, pairs_half, public_run}
+use Rattle.maps.proofs.Publishing.{code_zeros, forms_next, over_next, public_run}
 use Rattle.maps.proofs.public_runs.write_run.Goals as goal
 
 pub loop-f-init : goal.loop-f-init

@@ -1,10 +1,9 @@
-use Rattle.std.proofs.Common.{◌≡◌, ℕ, ◌+◌, List, [], length, drop, Option, Result, sym, refl, ap, ◌∙◌, subst, ap₂}
+use Rattle.std.proofs.Common.{◌≡◌, List, [], drop, Option, refl, ap, ◌∙◌, subst}
 use Rattle.std.proofs.lemmas.List.{take_rest}
 use Rattle.keys.specs.declared.heads.Head.{Head}
-use Rattle.keys.specs.declared.refusals.Refusal.{Refusal}
 use Rattle.keys.specs.declared.refusals.Buffer.TheVariants.{Key, Digest, Signature}
 use Rattle.keys.specs.Shapes.{variables, equations, public_codes}
-use Rattle.keys.specs.Heads.{shape_of, head_of, key_length}
+use Rattle.keys.specs.Heads.{shape_of, head_of}
 use Rattle.keys.specs.Refusals.{Told, first, Answers}
 use Rattle.keys.proofs.Orders.{also, codes_same}
 use Rattle.maps.proofs.verdicts.judge_codes.Goals as goal

@@ -1,7 +1,6 @@
-use Rattle.std.proofs.Common.{◌≡◌, ℕ, ◌+◌, List, [], Option, Result, sym, refl, ap, ◌∙◌, subst, ap₂, zero-add}
+use Rattle.std.proofs.Common.{◌≡◌, ℕ, ◌+◌, List, [], Option, sym, refl, ap, ◌∙◌, subst, ap₂, zero-add}
 use Rattle.fields.specs.Packing.{packed_length}
 use Rattle.keys.specs.declared.heads.Head.{Head}
-use Rattle.keys.specs.declared.refusals.Refusal.{Refusal}
 use Rattle.keys.specs.declared.refusals.Buffer.TheVariants.{Key, Digest, Signature}
 use Rattle.keys.specs.Shapes.{variables, equations, public_codes}
 use Rattle.keys.specs.Heads.{shape_of, head_of, key_length}

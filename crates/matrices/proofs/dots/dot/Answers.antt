@@ -1,4 +1,4 @@
-use Rattle.std.proofs.Common.{◌≡◌, ◌∙◌, ap₂, add-one}
+use Rattle.std.proofs.Common.{◌∙◌, ap₂, add-one}
 use Rattle.matrices.proofs.dots.dot.Goals as goal
 
 pub loop-i-preserved : goal.loop-i-preserved

@@ -1,4 +1,4 @@
-use Rattle.std.proofs.Common.{◌≡◌, ◌+◌, ◌*◌, sym, ap, ◌∙◌, subst, arith}
+use Rattle.std.proofs.Common.{◌+◌, ◌*◌, sym, subst, arith}
 use Rattle.matrices.specs.Arrays.{Added, Cleared}
 use Rattle.matrices.proofs.RowWrites.{row_below, rows_apart, cleared_skip, cleared_more}
 use Rattle.matrices.proofs.elimination.clear_column.Goals as goal

@@ -1,4 +1,4 @@
-use Rattle.std.proofs.Common.{length, refl, inl, inr, arith}
+use Rattle.std.proofs.Common.{length, refl, inl, arith}
 use Rattle.matrices.proofs.RowWrites.{too_wide}
 use Rattle.matrices.proofs.elimination.eliminate.Goals as goal
 

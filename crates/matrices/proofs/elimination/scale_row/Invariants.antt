@@ -1,4 +1,4 @@
-use Rattle.matrices.specs.Arrays.{Scaled, Written}
+use Rattle.matrices.specs.Arrays.{Written}
 use Rattle.std.proofs.Common.{◌+◌, get_or}
 use Rattle.matrices.proofs.elimination.scale_row.Given as goal
 

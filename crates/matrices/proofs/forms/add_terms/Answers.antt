@@ -1,4 +1,4 @@
-use Rattle.std.proofs.Common.{◌≡◌, ℕ, suc, ◌+◌, ◌-◌, ◌*◌, ◌<◌, ◌≤◌, List, length, get_or, sym, refl, ap, ◌∙◌, subst, ap₂, add-one, arith}
+use Rattle.std.proofs.Common.{◌≡◌, ℕ, ◌+◌, ◌-◌, ◌*◌, ◌≤◌, length, get_or, sym, ap, ◌∙◌, ap₂, add-one, arith}
 use Rattle.algebra.specs.Sums.{sum}
 use Rattle.fields.specs.Packing.{codes_from}
 use Rattle.matrices.specs.QuadraticSystems.{pairs_before, term_of}

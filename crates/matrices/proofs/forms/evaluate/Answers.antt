@@ -1,11 +1,11 @@
-use Rattle.std.proofs.Common.{◌≡◌, ℕ, suc, ◌+◌, ◌-◌, ◌*◌, ◌<◌, ◌≤◌, Bool, true, ◌&&◌, leb, List, length, get_or, take, replicate, sym, refl, ap, ◌∙◌, subst, ap₂, add-one, arith, le-leb}
+use Rattle.std.proofs.Common.{◌≡◌, ℕ, ◌-◌, ◌≤◌, leb, List, length, get_or, take, replicate, sym, ap, ◌∙◌, ap₂, add-one, arith, le-leb}
 use native.Mathlib.Decide.{dec_lt}
 use Rattle.std.proofs.lemmas.List.FromFn.{fill_by_all}
 use Rattle.std.proofs.lemmas.List.{get_or_past, length-replicate, length-take-le, get_or-replicate}
 use Rattle.std.proofs.lemmas.Bool.{and_from, true≢false}
 use Rattle.algebra.specs.Sums.{sum}
 use Rattle.algebra.proofs.Codes.{sum_code, nil_code}
-use Rattle.matrices.specs.QuadraticSystems.{pairs_before, terms_of, form_value, Evaluated}
+use Rattle.matrices.specs.QuadraticSystems.{pairs_before, terms_of, form_value}
 use Rattle.matrices.proofs.Terms.{place_small, area_next, area_none, form_value_lem}
 use Rattle.matrices.proofs.forms.evaluate.Goals as goal
 

@@ -1,4 +1,4 @@
-use Rattle.std.proofs.Common.{◌≡◌, ℕ, ◌+◌, ◌*◌, ◌<◌, ◌≤◌, length, get_or, set, sym, refl, ap, ◌∙◌, subst, arith, true-eqb}
+use Rattle.std.proofs.Common.{◌≡◌, ℕ, ◌+◌, ◌*◌, ◌<◌, ◌≤◌, length, get_or, set, sym, refl, ◌∙◌, subst, arith, true-eqb}
 use Rattle.std.proofs.lemmas.List.Edits.{fill_by_more}
 use Rattle.algebra.specs.Sums.{dot_of}
 use Rattle.matrices.specs.Arrays.{entry}

@@ -1,4 +1,4 @@
-use Rattle.std.proofs.Common.{◌≡◌, ◌*◌, length, get_or, sym, refl, ap, ◌∙◌, arith}
+use Rattle.std.proofs.Common.{◌≡◌, ◌*◌, length, get_or, refl, ap, ◌∙◌, arith}
 use Rattle.matrices.proofs.RowWrites.{row_below}
 use Rattle.matrices.proofs.RowSums.{combine_more, combine_skip}
 use Rattle.matrices.proofs.products.combine.Goals as goal

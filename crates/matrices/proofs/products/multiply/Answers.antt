@@ -1,4 +1,4 @@
-use Rattle.std.proofs.Common.{◌≡◌, ◌+◌, ◌*◌, ◌≤◌, length, sym, ap, ◌∙◌, arith, true-eqb}
+use Rattle.std.proofs.Common.{arith, true-eqb}
 use Rattle.matrices.proofs.RowWrites.{row_below}
 use Rattle.matrices.proofs.RowSums.{multiply_more}
 use Rattle.matrices.proofs.products.multiply.Goals as goal

@@ -1,4 +1,4 @@
-use Rattle.std.proofs.Common.{◌≡◌, ◌-◌, ◌*◌, ◌≤◌, length, take, sym, ap, ◌∙◌, arith, length-take-le, true-eqb}
+use Rattle.std.proofs.Common.{◌≡◌, ◌-◌, ◌*◌, length, ◌∙◌, arith, length-take-le, true-eqb}
 use Rattle.std.proofs.lemmas.Slice.{drop-append-drop}
 use Rattle.matrices.proofs.Columns.{inverts}
 use Rattle.matrices.proofs.Blocks.{twice_below, both_blocks}

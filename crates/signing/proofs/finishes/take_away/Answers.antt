@@ -1,5 +1,4 @@
-use Rattle.std.proofs.Common.{◌≡◌, ◌<◌, length, get_or, ap, ◌∙◌, arith}
-use Rattle.signing.specs.Starts.{TakenAway}
+use Rattle.std.proofs.Common.{◌<◌, length, get_or, ap, ◌∙◌, arith}
 use Rattle.signing.proofs.FinishParts.{taken_none, taken_more}
 use Rattle.signing.proofs.finishes.take_away.Goals as goal
 

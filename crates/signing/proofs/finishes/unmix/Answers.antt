@@ -1,4 +1,4 @@
-use Rattle.std.proofs.Common.{◌≡◌, length, get_or, ap, ◌∙◌, zero-add, arith}
+use Rattle.std.proofs.Common.{length, get_or, ap, ◌∙◌, zero-add, arith}
 use Rattle.algebra.proofs.Layers.{applied_ext}
 use Rattle.fields.specs.Packing.{code_at}
 use Rattle.keys.specs.Shapes.{equations}

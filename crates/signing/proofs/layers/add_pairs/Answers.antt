@@ -1,4 +1,4 @@
-use Rattle.std.proofs.Common.{◌≡◌, ◌<◌, length, arith}
+use Rattle.std.proofs.Common.{◌<◌, length, arith}
 use Rattle.signing.specs.Layers.{layer_forms}
 use Rattle.signing.proofs.LayerSums.{central_below, pairs_start, pairs_more}
 use Rattle.signing.proofs.layers.add_pairs.Goals as goal

@@ -1,4 +1,4 @@
-use Rattle.std.proofs.Common.{◌≡◌, ℕ, ◌+◌, ◌<◌, length, get_or, refl, ap, ◌∙◌, ap₂, add-one, arith, rules}
+use Rattle.std.proofs.Common.{◌≡◌, ℕ, length, get_or, refl, ap, ◌∙◌, ap₂, add-one, arith, rules}
 use Rattle.algebra.specs.Sums.{sum}
 use Rattle.algebra.specs.Layers.{layer_constant}
 use Rattle.algebra.proofs.Codes.{sum_code}

@@ -1,6 +1,4 @@
-use Rattle.std.proofs.Common.{◌≡◌, ℕ, ◌<◌, ◌≢◌, length, get_or, sym, ◌∙◌, subst, arith, rules}
-use native.Mathlib.Decide.{ℕ_discrete}
-use Rattle.matrices.specs.Arrays.{entry}
+use Rattle.std.proofs.Common.{◌≡◌, length, get_or, sym, arith, rules}
 use Rattle.maps.specs.SecretKeys.{group_size}
 use Rattle.signing.specs.Layers.{system_entry}
 use Rattle.signing.proofs.Columns.{system_more}

@@ -1,7 +1,6 @@
-use Rattle.std.proofs.Common.{◌≡◌, ℕ, ◌+◌, ◌<◌, length, get_or, ap, ◌∙◌, ap₂, arith}
+use Rattle.std.proofs.Common.{◌≡◌, ℕ, ◌+◌, ◌<◌, length, get_or, ◌∙◌, ap₂, arith}
 use Rattle.algebra.specs.Sums.{sum}
 use Rattle.algebra.specs.Layers.{layer_entry}
-use Rattle.maps.specs.SecretKeys.{group_start}
 use Rattle.signing.specs.Layers.{layer_forms}
 use Rattle.signing.proofs.LayerSums.{column_sum}
 use Rattle.signing.proofs.layers.sum_column.Goals as goal

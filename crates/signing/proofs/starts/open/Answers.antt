@@ -1,4 +1,4 @@
-use Rattle.std.proofs.Common.{◌≡◌, ℕ, ◌+◌, ◌-◌, ◌*◌, ◌<◌, ◌≤◌, List, length, get_or, sym, refl, ap, ◌∙◌, subst, zero-add, arith}
+use Rattle.std.proofs.Common.{◌≡◌, ◌+◌, ◌-◌, ◌*◌, length, get_or, sym, refl, ap, ◌∙◌, subst, zero-add, arith}
 use borrow.Rule.Slice.PartMut.{put_same, put_mid}
 use Rattle.std.proofs.lemmas.Result.{err_from_is_err_and}
 use Rattle.algebra.specs.Systems.{FirstDependent}
@@ -7,7 +7,7 @@ use Rattle.fields.specs.Packing.{code_at}
 use Rattle.matrices.specs.declared.elimination.Dependent.{Dependent}
 use Rattle.matrices.proofs.Blocks.{row_written}
 use Rattle.maps.proofs.LayerRows.{get_or_from}
-use Rattle.signing.specs.Layers.{layer_forms, system_entry, SystemIn}
+use Rattle.signing.specs.Layers.{layer_forms, system_entry}
 use Rattle.signing.proofs.PlaceParts.{tail_length, first_at, constants_there, system_there, left_codes_lem, system_fault, place_holds}
 use Rattle.signing.proofs.starts.open.Goals as goal
 

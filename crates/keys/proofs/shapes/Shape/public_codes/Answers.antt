@@ -1,4 +1,4 @@
-use Rattle.std.proofs.Common.{◌≡◌, ℕ, ◌*◌, ap, ◌∙◌, ap₂, mul-le-mul, arith}
+use Rattle.std.proofs.Common.{ℕ, ◌*◌, ap, ◌∙◌, ap₂, mul-le-mul, arith}
 use Rattle.matrices.specs.QuadraticSystems.{pairs}
 use Rattle.keys.specs.Shapes.{public_codes}
 use Rattle.keys.proofs.shapes.Shape.public_codes.Goals as goal

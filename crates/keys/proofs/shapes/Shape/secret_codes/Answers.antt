@@ -1,4 +1,4 @@
-use Rattle.std.proofs.Common.{◌≡◌, ℕ, ◌+◌, ap₂, arith}
+use Rattle.std.proofs.Common.{ℕ, ◌+◌, ap₂, arith}
 use Rattle.keys.specs.Shapes.{secret_codes}
 use Rattle.keys.proofs.shapes.Shape.secret_codes.Goals as goal
 

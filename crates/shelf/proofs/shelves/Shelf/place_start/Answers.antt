@@ -1,4 +1,4 @@
-use Rattle.std.proofs.Common.{◌≡◌, ℕ, ◌+◌, ◌-◌, ◌*◌, ◌%◌, ◌≤◌, length, ap, ◌∙◌, arith}
+use Rattle.std.proofs.Common.{ℕ, ◌-◌, ◌*◌, ◌%◌, length, ap, arith}
 use Rattle.keys.specs.Shapes.{place_length}
 use Rattle.shelf.proofs.PlacesOf.{place_inside}
 use Rattle.shelf.proofs.shelves.Shelf.place_start.Goals as goal

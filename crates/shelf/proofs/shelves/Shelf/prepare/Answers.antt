@@ -1,4 +1,4 @@
-use Rattle.std.proofs.Common.{◌≡◌, ℕ, ◌+◌, ◌-◌, ◌≤◌, List, [], ◌∷◌, length, drop, replicate, Some, None, sym, refl, ap, ◌∙◌, subst, ap₂, inl, inr, arith}
+use Rattle.std.proofs.Common.{◌≡◌, ℕ, ◌+◌, ◌-◌, ◌≤◌, List, length, replicate, Some, sym, refl, ap, ◌∙◌, subst, inl, inr, arith}
 use borrow.Rule.Slice.PartMut.{put_mid, put_same}
 use Rattle.std.proofs.lemmas.List.{take_rest}
 use Rattle.std.proofs.lemmas.Result.{err_from_is_err_and}
@@ -7,8 +7,8 @@ use Rattle.fields.specs.Packing.{code_at, packed_length}
 use Rattle.keys.specs.declared.heads.Head.{Head}
 use Rattle.keys.specs.declared.shapes.Shape.{Shape}
 use Rattle.keys.specs.Shapes.{place_length, sign_workspace, within}
-use Rattle.keys.specs.Heads.{head_of, shape_of}
-use Rattle.keys.specs.Refusals.{Told, told, first}
+use Rattle.keys.specs.Heads.{head_of}
+use Rattle.keys.specs.Refusals.{told}
 use Rattle.signing.specs.Layers.{system_entry}
 use Rattle.signing.specs.Starts.{Holds}
 use Rattle.shelf.specs.Steps.{early_tests, prepare_buffers, prepare_tests}

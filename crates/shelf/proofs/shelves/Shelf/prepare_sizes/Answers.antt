@@ -1,4 +1,4 @@
-use Rattle.std.proofs.Common.{◌≡◌, List, [], Option, refl}
+use Rattle.std.proofs.Common.{List, [], Option, refl}
 use Rattle.keys.specs.declared.shapes.Shape.{Shape}
 use Rattle.keys.specs.declared.refusals.Buffer.TheVariants.{Vinegar}
 use Rattle.keys.specs.Heads.{shape_of}

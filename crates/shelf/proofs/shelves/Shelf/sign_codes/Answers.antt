@@ -1,4 +1,4 @@
-use Rattle.std.proofs.Common.{◌≡◌, List, [], Option, refl}
+use Rattle.std.proofs.Common.{List, [], Option, refl}
 use Rattle.std.proofs.lemmas.List.{take_rest}
 use Rattle.keys.specs.declared.refusals.Buffer.TheVariants.{Digest}
 use Rattle.keys.specs.Shapes.{equations}

@@ -1,5 +1,4 @@
-use Rattle.std.proofs.Common.{List, [], ◌∷◌, Option, ap}
-use Rattle.keys.specs.Heads.{head_of}
+use Rattle.std.proofs.Common.{[], ◌∷◌, Option, ap}
 use Rattle.keys.specs.Refusals.{Told, first}
 use Rattle.shelf.specs.Steps.{throw_buffers, all_tests}
 use Rattle.shelf.proofs.MakeThrow.{answers_with}

@@ -1,6 +1,5 @@
-use Rattle.std.proofs.Common.{◌≡◌, ℕ, ◌+◌, ◌-◌, ◌*◌, ◌≤◌, List, [], ◌∷◌, length, drop, replicate, Some, None, sym, refl, ap, ◌∙◌, subst, ap₂, inl, inr, arith}
+use Rattle.std.proofs.Common.{◌≡◌, ℕ, ◌+◌, ◌-◌, ◌*◌, ◌≤◌, List, length, replicate, Some, sym, refl, ap, ◌∙◌, subst, inl, inr, arith}
 use borrow.Rule.Slice.PartMut.{put_mid, put_same}
-use Rattle.std.specs.List.{between}
 use Rattle.std.proofs.lemmas.List.{take_rest}
 use Rattle.std.proofs.lemmas.Result.{err_from_is_err_and}
 use Rattle.algebra.specs.Systems.{FirstDependent}
@@ -8,11 +7,11 @@ use Rattle.fields.specs.Packing.{code_at, packed_length}
 use Rattle.keys.specs.declared.heads.Head.{Head}
 use Rattle.keys.specs.declared.shapes.Shape.{Shape}
 use Rattle.keys.specs.Shapes.{variables, equations, place_length, sign_workspace, within}
-use Rattle.keys.specs.Heads.{head_of, shape_of}
-use Rattle.keys.specs.Refusals.{Told, told, first}
+use Rattle.keys.specs.Heads.{head_of}
+use Rattle.keys.specs.Refusals.{told}
 use Rattle.signing.specs.Layers.{system_entry}
 use Rattle.signing.specs.Starts.{Finished, half_point, packed_vector}
-use Rattle.shelf.specs.Steps.{early_tests, sign_buffers, end_tests, place_at}
+use Rattle.shelf.specs.Steps.{early_tests, sign_buffers, end_tests}
 use Rattle.shelf.proofs.Judged.{refused_early, sign_late, left_untouched, left_wiped, sign_passed, sign_in_hand, held_places}
 use Rattle.shelf.proofs.PlacesOf.{part_length, place_is, at_place}
 use Rattle.shelf.proofs.shelves.Shelf.try_sign.Goals as goal
