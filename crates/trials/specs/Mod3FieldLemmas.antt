@@ -1,3 +1,4 @@
+-- The integers modulo 3: what an inverse is there, for a field that the tests extend.
 use Rattle.std.specs.Prelude.{◌≡◌, ℕ, zero, suc, ◌<◌, ◌≤◌, cond, Some, None, Option, ◌≢◌, nat_lt, refl}
 use Rattle.std.proofs.Common.{arith}
 use Rattle.std.proofs.lemmas.Bool.Decides.{nat_tests}
