@@ -1,6 +1,7 @@
 ghost use Rattle.std.specs.Prelude.{◌≡◌, ℕ, ◌+◌, ◌<◌, ◌≤◌, MatchOption};
 ghost use Rattle.algebra.specs.Modular.{modular, inverse31};
-ghost use Rattle.std.proofs.Common.{arith, lit≤};
+ghost use Rattle.std.proofs.Common.{lit≤};
+ghost use Rattle.std.proofs.Math.Nat.{le_trans};
 ghost use Rattle.algebra.proofs.ModularLaws.{modular_laws, inverse31_right};
 
 use super::rings::{Field, Ring};
@@ -57,7 +58,7 @@ impl Modulo {
 impl Ring for Modulo {
     ghost ring = { λ m. modular m.q };
 
-    ghost laws = { λ x. modular_laws x.q x.more (omega arith) };
+    ghost laws = { λ x. modular_laws x.q x.more (le_trans x.small (lit≤ tt)) };
 
     fn size(&self) -> u16 {
         self.q as u16
