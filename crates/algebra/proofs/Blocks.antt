@@ -1,26 +1,18 @@
 -- Unit upper triangular block matrices over a commutative ring, and their inverses. Assumes nothing.
-use Rattle.std.proofs.Common.{◌≡◌, ℕ, zero, suc, ◌+◌, ◌-◌, ◌<◌, ◌≤◌, cond, eqb, ltb, sym, ap, ◌∙◌, ap₂, add-zero, add-suc, arith, le-ltb, lt-ltb, eq-eqb, ne_eqb}
+use Rattle.std.proofs.Common.{◌≡◌, ℕ, zero, suc, ◌+◌, ◌-◌, ◌<◌, ◌≤◌, cond, eqb, ltb, sym, ap, ◌∙◌, ap₂, arith, le-ltb, lt-ltb, eq-eqb, ne_eqb}
 use mathlib.Core.Path.{fun_ext}
 use native.Mathlib.Decide.{dec_lt}
 use Rattle.algebra.specs.Commutative.{Commutative, total, apply}
-use Rattle.algebra.proofs.Laws.{add_left, add_mul, nil_add, one_mul, mul_nil}
-use Rattle.algebra.proofs.Totals.{total_ext, total_nil, total_add, total_mul, total_mul_right, total_swap}
+use Rattle.algebra.proofs.Laws.{add_left, add_mul, nil_add, one_mul, nil_mul}
+use Rattle.algebra.proofs.Totals.{total_ext, total_nil, total_add, total_split, total_mul, total_mul_right, total_swap}
 
 module _ {A : Type 0} (S : Commutative A) where
-  pub total_split : (a b : ℕ) (f : ℕ → A) → total S (a + b) f ≡ S.add (total S a f) (total S b (λ k. f (a + k)))
-  unfolding total
-  total_split a zero f = rw add-zero (sym (S.add_nil (total S a f)))
-  total_split a (suc b) f = rw add-suc (ap (λ t. S.add t (f (a + b))) (total_split a b f) ∙ S.add_assoc (total S a f) (total S b (λ k. f (a + k))) (f (a + b)))
-
   -- the identity matrix
   abbrev pub unit : ℕ → ℕ → A
   unit i j = cond (eqb i j) S.one S.nil
 
-  pub nil_mul : (a : A) → S.mul S.nil a ≡ S.nil
-  nil_mul a = S.mul_comm S.nil a ∙ mul_nil S a
-
   unit_off : (i j : ℕ) (a : A) → (i ≡ j → ⊥) → S.mul (unit i j) a ≡ S.nil
-  unit_off i j a h = rw (ne_eqb i j h) (nil_mul a)
+  unit_off i j a h = rw (ne_eqb i j h) (nil_mul S a)
 
   pub total_unit : (n i : ℕ) (x : ℕ → A) → i < n → total S n (λ j. S.mul (unit i j) (x j)) ≡ x i
   unfolding total
@@ -38,7 +30,7 @@ module _ {A : Type 0} (S : Commutative A) where
 
   rows_cancel : (n : ℕ) (f g x : ℕ → A) → ((k : ℕ) → S.add (f k) (g k) ≡ S.nil) → S.add (total S n (λ k. S.mul (f k) (x k))) (total S n (λ k. S.mul (g k) (x k))) ≡ S.nil
   rows_cancel n f g x h =
-      rows_add n f g x ∙ ap (total S n) (fun_ext (λ k. ap (λ t. S.mul t (x k)) (h k) ∙ nil_mul (x k))) ∙ total_nil S n
+      rows_add n f g x ∙ ap (total S n) (fun_ext (λ k. ap (λ t. S.mul t (x k)) (h k) ∙ nil_mul S (x k))) ∙ total_nil S n
 
   -- a row of o entries times a matrix of p columns times a vector
   row_times : (o p : ℕ) (r : ℕ → A) (M : ℕ → ℕ → A) (x : ℕ → A) → total S o (λ k. S.mul (r k) (total S p (λ l. S.mul (M k l) (x l)))) ≡ total S p (λ l. S.mul (total S o (λ k. S.mul (r k) (M k l))) (x l))
@@ -95,15 +87,15 @@ module _ {A : Type 0} (S : Commutative A) where
     first_row : (z : ℕ → A) (i : ℕ) → i < v → apply S (v + o + p) B z i ≡ S.add (S.add (z i) (total S o (λ k. S.mul (P i k) (z (v + k))))) (total S p (λ k. S.mul (Q i k) (z (v + o + k))))
     unfolding apply
     first_row z i h =
-        total_split (v + o) p (λ j. S.mul (B i j) (z j))
+        total_split S (v + o) p (λ j. S.mul (B i j) (z j))
         ∙ ap₂ S.add
-        (total_split v o (λ j. S.mul (B i j) (z j)) ∙ ap₂ S.add (entry v (B i) (unit i) z (λ j k. first_unit i j h k) ∙ total_unit v i z h) (entry o (λ k. B i (v + k)) (P i) (λ k. z (v + k)) (λ k l. first_p i k h l)))
+        (total_split S v o (λ j. S.mul (B i j) (z j)) ∙ ap₂ S.add (entry v (B i) (unit i) z (λ j k. first_unit i j h k) ∙ total_unit v i z h) (entry o (λ k. B i (v + k)) (P i) (λ k. z (v + k)) (λ k l. first_p i k h l)))
         (entry p (λ k. B i (v + o + k)) (Q i) (λ k. z (v + o + k)) (λ k l. first_q i k h))
 
     next_row : (z : ℕ → A) (i : ℕ) → v ≤ i → i < v + o → apply S (v + o + p) B z i ≡ S.add (z i) (total S p (λ k. S.mul (K (i - v) k) (z (v + o + k))))
     unfolding apply
     next_row z i h l =
-        total_split (v + o) p (λ j. S.mul (B i j) (z j))
+        total_split S (v + o) p (λ j. S.mul (B i j) (z j))
         ∙ ap₂ S.add
         (entry (v + o) (B i) (unit i) z (λ j k. next_unit i j h l k) ∙ total_unit (v + o) i z l)
         (entry p (λ k. B i (v + o + k)) (K (i - v)) (λ k. z (v + o + k)) (λ k m. next_k i k h l))

@@ -2,9 +2,9 @@
 use Rattle.std.proofs.Common.{◌≡◌, ℕ, suc, ◌+◌, ◌<◌, ◌≤◌, ◌≢◌, sym, refl, ap, ◌∙◌, ap₂, arith}
 use native.Mathlib.Decide.{dec_lt, ℕ_discrete}
 use Rattle.algebra.specs.Commutative.{Commutative, total, apply, times}
-use Rattle.algebra.proofs.Laws.{add_mul, one_mul, mul_nil, mul_neg}
-use Rattle.algebra.proofs.Totals.{total_ext, total_add, total_mul, times_apply}
-use Rattle.algebra.proofs.Places.{total_none, total_one, total_two, total_split, difference, apply_minus}
+use Rattle.algebra.proofs.Laws.{add_mul, one_mul, mul_nil, nil_mul, mul_neg}
+use Rattle.algebra.proofs.Totals.{total_ext, total_add, total_split, total_mul, times_apply}
+use Rattle.algebra.proofs.Places.{total_none, total_one, total_two, difference, apply_minus}
 
 -- one of two, by a decision
 pub pick : {A P : Type 0} → Dec P → A → A → A
@@ -49,6 +49,10 @@ pub record Going {A : Type 0} (S : Commutative A) (n w c : ℕ) (M B : ℕ → �
   pub off : (i j : ℕ) → i < n → j < c → (i ≡ j → ⊥) → B i j ≡ S.nil
 
 module _ {A : Type 0} (S : Commutative A) (n w : ℕ) where
+  -- what is nil in row c and in the others
+  row_nil : (c : ℕ) (f : ℕ → A) → f c ≡ S.nil → (i : ℕ) → ((i ≡ c → ⊥) → f i ≡ S.nil) → f i ≡ S.nil
+  row_nil c f h i k = elim (ℕ_discrete i c) [ yes e ↦ ap f e ∙ h | no e ↦ k e ]
+
   pub going_none : (M : ℕ → ℕ → A) → Going S n w 0 M M
   going_none M = record { forth = λ z k. k; back = λ z k. k; diagonal = λ j l. absurd (omega arith); off = λ i j l g h. absurd (omega arith) }
 
@@ -63,31 +67,45 @@ module _ {A : Type 0} (S : Commutative A) (n w : ℕ) where
 
   swap_kernel : (c p : ℕ) (B D : ℕ → ℕ → A) → c < n → p < n → Swap c p B D → (z : ℕ → A) → Kernel S n w B z → Kernel S n w D z
   swap_kernel c p B D lc lp W z K i l =
-      elim (ℕ_discrete i c) [
-        | yes e ↦ ap (apply S w D z) e ∙ apply_same S w B D z c p W.two ∙ K p lp
-        | no e ↦ elim (ℕ_discrete i p) [
-          | yes g ↦ ap (apply S w D z) g ∙ apply_same S w B D z p c W.one ∙ K c lc
-          | no g ↦ apply_same S w B D z i i (λ j m. W.rest i j l m e g) ∙ K i l
-        ]
-      ]
+      row_nil c (apply S w D z) (apply_same S w B D z c p W.two ∙ K p lp) i (λ e.
+      row_nil p (apply S w D z) (apply_same S w B D z p c W.one ∙ K c lc) i (λ g. apply_same S w B D z i i (λ j m. W.rest i j l m e g) ∙ K i l))
 
   pub going_swap : (c p : ℕ) (M B D : ℕ → ℕ → A) → c < n → c < w → c ≤ p → p < n → Swap c p B D → Going S n w c M B → Going S n w c M D
   going_swap c p M B D lc lw lo lp W G = record {
     forth = λ z K. swap_kernel c p B D lc lp W z (G.forth z K);
     back = λ z K. G.back z (swap_kernel c p D B lc lp (swap_back c p B D W) z K);
     diagonal = λ j l. W.rest j j (omega arith) (omega arith) (omega arith) (omega arith) ∙ G.diagonal j l;
-    off = off;
+    off = λ i j l m h.
+        row_nil c (λ t. D t j) (W.two j (omega arith) ∙ G.off p j lp m (omega arith)) i (λ e.
+        row_nil p (λ t. D t j) (W.one j (omega arith) ∙ G.off c j lc m (omega arith)) i (λ g. W.rest i j l (omega arith) e g ∙ G.off i j l m h));
+  }
+
+  -- row c is multiplied by a unit u, and to each other row a multiple of row c is added
+  going_rows : (c : ℕ) (u v : A) (a : ℕ → A) (M B D : ℕ → ℕ → A) → c < n → c < w → S.mul u v ≡ S.one → ((j : ℕ) → j < w → D c j ≡ S.mul u (B c j)) → ((i j : ℕ) → i < n → j < w → (i ≡ c → ⊥) → D i j ≡ S.add (B i j) (S.mul (a i) (B c j))) → Going S n w c M B → Going S n w c M D
+  going_rows c u v a M B D lc lw e here rest G = record {
+    forth = λ z K. forth z (G.forth z K);
+    back = λ z K. G.back z (back z K);
+    diagonal = λ j l. rest j j (omega arith) (omega arith) (omega arith) ∙ plus_nil _ _ _ (G.off c j lc l (omega arith)) ∙ G.diagonal j l;
+    off = λ i j l m h.
+        let k = G.off c j lc m (omega arith) in
+        row_nil c (λ t. D t j) (here j (omega arith) ∙ ap (S.mul u) k ∙ mul_nil S u) i (λ g. rest i j l (omega arith) g ∙ plus_nil _ _ _ k ∙ G.off i j l m h);
   }
     where
-      off : (i j : ℕ) → i < n → j < c → (i ≡ j → ⊥) → D i j ≡ S.nil
-      off i j l m h =
-          elim (ℕ_discrete i c) [
-            | yes e ↦ ap (λ t. D t j) e ∙ W.two j (omega arith) ∙ G.off p j lp m (omega arith)
-            | no e ↦ elim (ℕ_discrete i p) [
-              | yes g ↦ ap (λ t. D t j) g ∙ W.one j (omega arith) ∙ G.off c j lc m (omega arith)
-              | no g ↦ W.rest i j l (omega arith) e g ∙ G.off i j l m h
-            ]
-          ]
+      plus_nil : (x b y : A) → y ≡ S.nil → S.add x (S.mul b y) ≡ x
+      plus_nil x b y h = ap (λ t. S.add x (S.mul b t)) h ∙ ap (S.add x) (mul_nil S b) ∙ S.add_nil x
+
+      forth : (z : ℕ → A) → Kernel S n w B z → Kernel S n w D z
+      forth z K i l =
+          row_nil c (apply S w D z) (apply_scaled S w B D z u c c here ∙ ap (S.mul u) (K c lc) ∙ mul_nil S u) i (λ g.
+          apply_added S w B D z (a i) i c (λ j m. rest i j l m g) ∙ plus_nil _ _ _ (K c lc) ∙ K i l)
+
+      back : (z : ℕ → A) → Kernel S n w D z → Kernel S n w B z
+      back z K i l =
+          let x = apply S w B z c in
+          let k : x ≡ S.nil =
+          sym (one_mul S x) ∙ ap (λ t. S.mul t x) (sym e ∙ S.mul_comm u v) ∙ S.mul_assoc v u x
+          ∙ ap (S.mul v) (sym (apply_scaled S w B D z u c c here) ∙ K c lc) ∙ mul_nil S v in
+          row_nil c (apply S w B z) k i (λ g. sym (apply_added S w B D z (a i) i c (λ j m. rest i j l m g) ∙ plus_nil _ _ _ k) ∙ K i l)
 
   -- row c times u
   pub record Scale (c : ℕ) (u : A) (B D : ℕ → ℕ → A) : Type 0 where
@@ -95,36 +113,8 @@ module _ {A : Type 0} (S : Commutative A) (n w : ℕ) where
     pub rest : (i j : ℕ) → i < n → j < w → (i ≡ c → ⊥) → D i j ≡ B i j
 
   pub going_scale : (c : ℕ) (u v : A) (M B D : ℕ → ℕ → A) → c < n → c < w → S.mul u v ≡ S.one → Scale c u B D → Going S n w c M B → Going S n w c M D
-  going_scale c u v M B D lc lw e W G = record {
-    forth = λ z K. forth z (G.forth z K);
-    back = λ z K. G.back z (back z K);
-    diagonal = λ j l. W.rest j j (omega arith) (omega arith) (omega arith) ∙ G.diagonal j l;
-    off = off;
-  }
-    where
-      forth : (z : ℕ → A) → Kernel S n w B z → Kernel S n w D z
-      forth z K i l =
-          elim (ℕ_discrete i c) [
-            | yes g ↦ ap (apply S w D z) g ∙ apply_scaled S w B D z u c c W.here ∙ ap (S.mul u) (K c lc) ∙ mul_nil S u
-            | no g ↦ apply_same S w B D z i i (λ j m. W.rest i j l m g) ∙ K i l
-          ]
-
-      back : (z : ℕ → A) → Kernel S n w D z → Kernel S n w B z
-      back z K i l =
-          elim (ℕ_discrete i c) [
-            | yes g ↦
-                let x = apply S w B z c in
-                let s : S.mul u x ≡ S.nil = sym (apply_scaled S w B D z u c c W.here) ∙ K c lc in
-                ap (apply S w B z) g ∙ sym (one_mul S x) ∙ ap (λ t. S.mul t x) (sym e ∙ S.mul_comm u v) ∙ S.mul_assoc v u x ∙ ap (S.mul v) s ∙ mul_nil S v
-            | no g ↦ sym (apply_same S w B D z i i (λ j m. W.rest i j l m g)) ∙ K i l
-          ]
-
-      off : (i j : ℕ) → i < n → j < c → (i ≡ j → ⊥) → D i j ≡ S.nil
-      off i j l m h =
-          elim (ℕ_discrete i c) [
-            | yes g ↦ ap (λ t. D t j) g ∙ W.here j (omega arith) ∙ ap (S.mul u) (G.off c j lc m (omega arith)) ∙ mul_nil S u
-            | no g ↦ W.rest i j l (omega arith) g ∙ G.off i j l m h
-          ]
+  going_scale c u v M B D lc lw e W =
+      going_rows c u v (λ _. S.nil) M B D lc lw e W.here (λ i j l m g. W.rest i j l m g ∙ sym (ap (S.add (B i j)) (nil_mul S (B c j)) ∙ S.add_nil (B i j)))
 
   -- from each row but c its entry in column c times row c is taken
   pub record Clear (c : ℕ) (B D : ℕ → ℕ → A) : Type 0 where
@@ -133,50 +123,24 @@ module _ {A : Type 0} (S : Commutative A) (n w : ℕ) where
 
   pub going_clear : (c : ℕ) (M B D : ℕ → ℕ → A) → c < n → c < w → B c c ≡ S.one → Clear c B D → Going S n w c M B → Going S n w (suc c) M D
   going_clear c M B D lc lw e W G = record {
-    forth = λ z K. forth z (G.forth z K);
-    back = λ z K. G.back z (back z K);
-    diagonal = diagonal;
-    off = off;
+    forth = K.forth;
+    back = K.back;
+    diagonal = λ j l.
+        elim (ℕ_discrete j c) [
+          | yes g ↦ ap (λ t. D t t) g ∙ W.here c lw ∙ e
+          | no g ↦ let ne : j ≢ c = g in K.diagonal j (omega arith)
+        ];
+    off = λ i j l m h.
+        elim (ℕ_discrete j c) [
+          | yes g ↦
+              ap (D i) g ∙ W.rest i c l lw (λ q. h (q ∙ sym g)) ∙ ap (λ t. S.add (B i c) (S.mul (S.neg (B i c)) t)) e
+              ∙ ap (S.add (B i c)) (S.mul_one (S.neg (B i c))) ∙ S.add_neg (B i c)
+          | no g ↦ let ne : j ≢ c = g in K.off i j l (omega arith) h
+        ];
   }
     where
-      plus_nil : (x a b : A) → b ≡ S.nil → S.add x (S.mul a b) ≡ x
-      plus_nil x a b h = ap (λ t. S.add x (S.mul a t)) h ∙ ap (S.add x) (mul_nil S a) ∙ S.add_nil x
-
-      forth : (z : ℕ → A) → Kernel S n w B z → Kernel S n w D z
-      forth z K i l =
-          elim (ℕ_discrete i c) [
-            | yes g ↦ ap (apply S w D z) g ∙ apply_same S w B D z c c W.here ∙ K c lc
-            | no g ↦ apply_added S w B D z (S.neg (B i c)) i c (λ j m. W.rest i j l m g) ∙ plus_nil _ _ _ (K c lc) ∙ K i l
-          ]
-
-      back : (z : ℕ → A) → Kernel S n w D z → Kernel S n w B z
-      back z K i l =
-          let kc : apply S w B z c ≡ S.nil = sym (apply_same S w B D z c c W.here) ∙ K c lc in
-          elim (ℕ_discrete i c) [
-            | yes g ↦ ap (apply S w B z) g ∙ kc
-            | no g ↦ sym (plus_nil (apply S w B z i) (S.neg (B i c)) _ kc) ∙ sym (apply_added S w B D z (S.neg (B i c)) i c (λ j m. W.rest i j l m g)) ∙ K i l
-          ]
-
-      diagonal : (j : ℕ) → j < suc c → D j j ≡ S.one
-      diagonal j l =
-          elim (ℕ_discrete j c) [
-            | yes g ↦ ap (λ t. D t t) g ∙ W.here c lw ∙ e
-            | no g ↦ let ne : j ≢ c = g in
-                W.rest j j (omega arith) (omega arith) g ∙ plus_nil _ _ _ (G.off c j lc (omega arith) (λ q. g (sym q))) ∙ G.diagonal j (omega arith)
-          ]
-
-      off : (i j : ℕ) → i < n → j < suc c → (i ≡ j → ⊥) → D i j ≡ S.nil
-      off i j l m h =
-          elim (ℕ_discrete j c) [
-            | yes g ↦
-                ap (D i) g ∙ W.rest i c l lw (λ q. h (q ∙ sym g)) ∙ ap (λ t. S.add (B i c) (S.mul (S.neg (B i c)) t)) e
-                ∙ ap (S.add (B i c)) (S.mul_one (S.neg (B i c))) ∙ S.add_neg (B i c)
-            | no g ↦ let ne : j ≢ c = g in
-                elim (ℕ_discrete i c) [
-                  | yes p ↦ ap (λ t. D t j) p ∙ W.here j (omega arith) ∙ G.off c j lc (omega arith) (λ q. g (sym q))
-                  | no p ↦ W.rest i j l (omega arith) p ∙ plus_nil _ _ _ (G.off c j lc (omega arith) (λ q. g (sym q))) ∙ G.off i j l (omega arith) h
-                ]
-          ]
+      K : Going S n w c M D
+      K = going_rows c S.one S.one (λ i. S.neg (B i c)) M B D lc lw (S.mul_one S.one) (λ j l. W.here j l ∙ sym (one_mul S (B c j))) W.rest G
 
   -- column d of B, made from the first c, with - 1 at d
   unfoldable pub relation : ℕ → ℕ → (ℕ → ℕ → A) → ℕ → A
@@ -194,15 +158,12 @@ module _ {A : Type 0} (S : Commutative A) (n w : ℕ) where
   unfolding relation
   relation_else c d B j l h = pick_no (dec_lt j c) _ _ (λ g. omega arith) ∙ pick_no (ℕ_discrete j d) _ _ h
 
-  nil_mul : (a : A) → S.mul S.nil a ≡ S.nil
-  nil_mul a = S.mul_comm S.nil a ∙ mul_nil S a
-
   pub relation_kernel : (c d : ℕ) (M B : ℕ → ℕ → A) → c ≤ d → d < w → ((i : ℕ) → i < n → c ≤ i → B i d ≡ S.nil) → Going S n w c M B → Kernel S n w M (relation c d B)
   unfolding apply
   relation_kernel c d M B lo hi h G = G.back (relation c d B) kernel
     where
       left : (i j : ℕ) → B i j ≡ S.nil → S.mul (B i j) (relation c d B j) ≡ S.nil
-      left i j e = ap (λ t. S.mul t (relation c d B j)) e ∙ nil_mul _
+      left i j e = ap (λ t. S.mul t (relation c d B j)) e ∙ nil_mul S _
 
       right : (i j : ℕ) → relation c d B j ≡ S.nil → S.mul (B i j) (relation c d B j) ≡ S.nil
       right i j e = ap (S.mul (B i j)) e ∙ mul_nil S _
@@ -238,7 +199,7 @@ module _ {A : Type 0} (S : Commutative A) (n w : ℕ) where
             sym (one_mul S (x j)) ∙ ap (λ t. S.mul t (x j)) (sym (G.diagonal j g))
             ∙ sym (total_one S w (λ k. S.mul (B j k) (x k)) j (omega arith) (λ k m q.
             elim (dec_lt k c) [
-              | yes s ↦ ap (λ t. S.mul t (x k)) (G.off j k (omega arith) s (λ t. q (sym t))) ∙ nil_mul (x k)
+              | yes s ↦ ap (λ t. S.mul t (x k)) (G.off j k (omega arith) s (λ t. q (sym t))) ∙ nil_mul S (x k)
               | no s ↦ ap (S.mul (B j k)) (p k (omega arith)) ∙ mul_nil S (B j k)
             ]))
             ∙ G.forth x K j (omega arith)
@@ -269,7 +230,7 @@ module _ {A : Type 0} (S : Commutative A) where
       let z : ℕ → A = relation S n (n + m) n (n + k) Y in
       let K : Kernel S n (n + m) M z = λ i p. relation_sum n m k M Y i g ∙ ap (λ t. S.add t (S.neg (M i (n + k)))) (h i p) ∙ S.add_neg (M i (n + k)) in
       sym (one_mul S (y j)) ∙ ap (λ t. S.mul t (y j)) (sym (G.diagonal j l))
-      ∙ sym (total_one S n (λ t. S.mul (B j t) (y t)) j l (λ t p q. ap (λ s. S.mul s (y t)) (G.off j t l p (λ e. q (sym e))) ∙ S.mul_comm S.nil (y t) ∙ mul_nil S (y t)))
+      ∙ sym (total_one S n (λ t. S.mul (B j t) (y t)) j l (λ t p q. ap (λ s. S.mul s (y t)) (G.off j t l p (λ e. q (sym e))) ∙ nil_mul S (y t)))
       ∙ difference S _ _ (sym (relation_sum n m k B Y j g) ∙ G.forth z K j l)
 
   -- a matrix that takes nothing but nil to nil takes no two vectors to one
@@ -286,7 +247,7 @@ module _ {A : Type 0} (S : Commutative A) where
       one i g =
           sym (times_apply S n M X (λ t. M t k) i)
           ∙ total_ext S n _ _ (λ j h. ap (λ t. S.mul t (M j k)) (e i j g h))
-          ∙ total_one S n (λ j. S.mul (U i j) (M j k)) i g (λ j h q. ap (λ t. S.mul t (M j k)) (o i j (λ s. q (sym s))) ∙ S.mul_comm S.nil (M j k) ∙ mul_nil S (M j k))
+          ∙ total_one S n (λ j. S.mul (U i j) (M j k)) i g (λ j h q. ap (λ t. S.mul t (M j k)) (o i j (λ s. q (sym s))) ∙ nil_mul S (M j k))
           ∙ ap (λ t. S.mul t (M i k)) (d i) ∙ one_mul S (M i k)
 
       two : (i : ℕ) → apply S n M (λ j. U j k) i ≡ M i k

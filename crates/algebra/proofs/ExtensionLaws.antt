@@ -1,5 +1,5 @@
 -- The quadratic extension of a ring is a ring, and of a field, where t t = t + c has no root, a field. Assumes nothing.
-use Rattle.std.proofs.Common.{◌≡◌, ℕ, suc, ◌+◌, ◌*◌, ◌/◌, ◌%◌, ◌<◌, ◌≤◌, Bool, cond, ◌⊎◌, Some, None, Option, sym, refl, ap, ◌∙◌, subst, ap₂, inl, inr, mod-lt, mod-eq_of_lt, div-lt_iff_lt-mul, mul-le-mul_left, mul-zero, zero-add, mul-one, mul-add, arith, le-ltb, lt-ltb}
+use Rattle.std.proofs.Common.{◌≡◌, ℕ, suc, ◌+◌, ◌*◌, ◌/◌, ◌%◌, ◌<◌, Bool, cond, ◌⊎◌, Some, None, Option, sym, refl, ap, ◌∙◌, subst, ap₂, inl, inr, mod-lt, mod-eq_of_lt, div-lt_iff_lt-mul, mul-le-mul_left, mul-zero, zero-add, mul-one, mul-add, arith, le-ltb, lt-ltb}
 use native.Mathlib.Nat.{mod-add-div, div-eq_of_lt, add-mul-div_left, add-mul-mod_self_left}
 use Rattle.std.proofs.lemmas.Bool.Decides.{eqb_tells}
 use Rattle.algebra.specs.Commutative.{Commutative}
@@ -18,10 +18,6 @@ module _ (q : ℕ) (pos : 0 < q) where
       let k = mul-one q in
       let s : q * suc h ≡ q * (h + 1) = ap (λ t. q * t) (omega arith) in
       omega arith
-
-  -- with at most 16 codes below
-  pub join_byte : (l h : ℕ) → q ≤ 16 → l < q → h < q → join q l h < 256
-  join_byte l h small a b = let k = join_code l h a b in let m = mul-le-mul_left q small in omega arith
 
   join_low : (l h : ℕ) → l < q → join q l h % q ≡ l
   join_low l h a = add-mul-mod_self_left l q h ∙ mod-eq_of_lt a

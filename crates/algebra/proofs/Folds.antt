@@ -3,7 +3,7 @@ use Rattle.std.proofs.Common.{◌≡◌, ℕ, Bool, true, false, cond, eqb, ltb,
 use mathlib.Core.Path.{fun_ext}
 use native.Mathlib.Decide.{dec_lt}
 use Rattle.algebra.specs.Commutative.{Commutative, total, value}
-use Rattle.algebra.proofs.Laws.{add_mul, nil_add, mul_nil}
+use Rattle.algebra.proofs.Laws.{add_mul, nil_add, nil_mul}
 use Rattle.algebra.proofs.Totals.{total_add, total_mul, total_mul_right, total_swap, value_pairs}
 
 module _ {A : Type 0} (S : Commutative A) where
@@ -60,7 +60,7 @@ module _ {A : Type 0} (S : Commutative A) where
       go : (b c : Bool) → S.mul (cond b (S.add (F i j) (F j i)) (cond c (F i j) S.nil)) w ≡ cond b (S.add (S.mul (F i j) w) (S.mul (F j i) (S.mul (x j) (x i)))) (cond c (S.mul (F i j) w) S.nil)
       go true c = add_mul S (F i j) (F j i) w ∙ ap (λ t. S.add (S.mul (F i j) w) (S.mul (F j i) t)) (S.mul_comm (x i) (x j))
       go false true = refl
-      go false false = S.mul_comm S.nil w ∙ mul_nil S w
+      go false false = nil_mul S w
 
   -- a fold keeps the form's value
   pub value_fold : (n : ℕ) (F : ℕ → ℕ → A) (x : ℕ → A) → value S n (fold F) x ≡ value S n F x

@@ -32,6 +32,9 @@ module _ {A : Type 0} (S : Commutative A) where
       let d : S.add m m ≡ m = sym (S.mul_add a S.nil S.nil) ∙ ap (S.mul a) (S.add_nil S.nil) in
       sym (S.add_nil m) ∙ ap (S.add m) (sym (S.add_neg m)) ∙ sym (S.add_assoc m m (S.neg m)) ∙ ap (λ t. S.add t (S.neg m)) d ∙ S.add_neg m
 
+  pub nil_mul : (a : A) → S.mul S.nil a ≡ S.nil
+  nil_mul a = S.mul_comm S.nil a ∙ mul_nil a
+
   pub mul_neg : (a b : A) → S.mul a (S.neg b) ≡ S.neg (S.mul a b)
   mul_neg a b = neg_only (S.mul a b) (S.mul a (S.neg b)) (sym (S.mul_add a b (S.neg b)) ∙ ap (S.mul a) (S.add_neg b) ∙ mul_nil a)
 

@@ -4,9 +4,10 @@ use Rattle.algebra.specs.Commutative.{Commutative, total, value}
 use Rattle.algebra.specs.Rings.{Ring, RingLaws}
 use Rattle.algebra.specs.Forms.{form_at}
 use Rattle.algebra.specs.Layers.{layer_entry, layer_constant, layer_value}
-use Rattle.algebra.proofs.Laws.{mul_nil}
+use Rattle.algebra.proofs.Laws.{nil_mul}
 use Rattle.algebra.proofs.Totals.{total_ext, total_add, total_swap, total_mul_right, value_pairs}
-use Rattle.algebra.proofs.Places.{total_none, total_split}
+use Rattle.algebra.proofs.Totals.{total_split}
+use Rattle.algebra.proofs.Places.{total_none}
 use Rattle.algebra.proofs.Codes.{codes, code, code_known, nil_code, sum_code}
 use Rattle.algebra.proofs.Bridge.{vector, matrix, code_back, mul_of, sum_of, form_of}
 
@@ -37,7 +38,7 @@ module _ {A : Type 0} (S : Commutative A) where
       row i = total S (v + o + p) (f i)
 
       gone : (i j : ℕ) → j < v + o + p → (v ≤ i) ⊎ (v + o ≤ j) → f i j ≡ S.nil
-      gone i j m e = ap (λ t. S.mul t (S.mul (x i) (x j))) (h i j m e) ∙ S.mul_comm S.nil _ ∙ mul_nil S _
+      gone i j m e = ap (λ t. S.mul t (S.mul (x i) (x j))) (h i j m e) ∙ nil_mul S _
 
 module _ (R : Ring) (L : RingLaws R) where
   pub entry_code : (v : ℕ) (F : ℕ → ℕ → ℕ → ℕ) (x : ℕ → ℕ) (r c : ℕ) → layer_entry R v F x r c < R.q

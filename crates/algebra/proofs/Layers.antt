@@ -1,10 +1,10 @@
 -- Forms in two layers between two masks: what solves both layers is taken back by the masks, and nothing else is. Assumes nothing.
-use Rattle.std.proofs.Common.{◌≡◌, ℕ, zero, suc, ◌+◌, ◌-◌, ◌<◌, ltb, sym, refl, ap, ◌∙◌, subst, ap₂, inl, inr, add-zero, arith, le-ltb, lt-ltb}
+use Rattle.std.proofs.Common.{◌≡◌, ℕ, ◌+◌, ◌-◌, ◌<◌, ltb, sym, ap, ◌∙◌, subst, ap₂, inl, inr, add-zero, arith, le-ltb, lt-ltb}
 use native.Mathlib.Decide.{dec_lt}
 use Rattle.std.proofs.lemmas.Bool.{cond-true, cond-false}
 use Rattle.algebra.specs.Commutative.{apply}
 use Rattle.algebra.specs.Rings.{Ring, RingLaws}
-use Rattle.algebra.specs.Sums.{sum, dot_of}
+use Rattle.algebra.specs.Sums.{dot_of}
 use Rattle.algebra.specs.Forms.{form_at}
 use Rattle.algebra.specs.Matrices.{applied}
 use Rattle.algebra.specs.Masks.{Inverse}
@@ -14,7 +14,7 @@ use Rattle.algebra.proofs.Laws.{neg_cancel, add_left}
 use Rattle.algebra.proofs.Places.{apply_minus}
 use Rattle.algebra.proofs.Codes.{Code, codes, nil_code, sum_code, sum_total, mul_zero, zero_mul}
 use Rattle.algebra.proofs.Bridge.{vector, matrix, code_number, mul_by, applied_of}
-use Rattle.algebra.proofs.SumLaws.{sum_ext, form_ext}
+use Rattle.algebra.proofs.SumLaws.{sum_ext, form_ext, sum_zeros}
 use Rattle.algebra.proofs.LayerForms.{constant_code, layer_value_lem}
 
 pub joined_low : (v : ℕ) (w y : ℕ → ℕ) (i : ℕ) → i < v → joined v w y i ≡ w i
@@ -74,10 +74,6 @@ module _ (R : Ring) (L : RingLaws R) where
       let z : Code R = (c, hc) in
       sym (ap (λ t. t.0) (add_left S (S.neg z) z x ∙ neg_cancel S z x)) ∙ ap (R.add (R.neg c)) e
       ∙ ap (λ t. t.0) (add_left S (S.neg z) z y ∙ neg_cancel S z y)
-
-  sum_zero : (n : ℕ) (f : ℕ → ℕ) → ((i : ℕ) → i < n → f i ≡ 0) → sum R n f ≡ 0
-  sum_zero zero f h = refl
-  sum_zero (suc n) f h = ap₂ R.add (sum_zero n f (λ i l. h i (omega arith))) (h n (omega arith)) ∙ L.add_zero 0 (nil_code R L)
 
   -- a layer's form at the values w and a solution y of its system
   pub layer_solved : (v o : ℕ) (F : ℕ → ℕ → ℕ → ℕ) (w y : ℕ → ℕ) (r b : ℕ) → b < R.q → dot_of R o (layer_entry R v F w r) y ≡ R.add b (R.neg (layer_constant R v F w r)) → layer_value R v o F (joined v w y) r ≡ b
@@ -162,6 +158,6 @@ module _ (R : Ring) (L : RingLaws R) where
           IS.before (λ g. form_at R n (F g) u) (λ g h. form_code n (F g) u) r (omega arith)
           ∙ first_value u r l
           ∙ ap₂ R.add
-          (sum_zero v1 _ (λ i g. sum_zero v1 _ (λ j h. ap (λ a. R.mul (F r i j) (R.mul a (u j))) (nil i g) ∙ ap (R.mul (F r i j)) (zero_mul R L (u j)) ∙ mul_zero R L (F r i j))))
-          (sum_zero o1 _ (λ c g. ap (λ a. R.mul a (u (v1 + c))) (sum_zero v1 _ (λ i h. ap (R.mul (F r i (v1 + c))) (nil i h) ∙ mul_zero R L (F r i (v1 + c)))) ∙ zero_mul R L (u (v1 + c))))
+          (sum_zeros R L v1 _ (λ i g. sum_zeros R L v1 _ (λ j h. ap (λ a. R.mul (F r i j) (R.mul a (u j))) (nil i g) ∙ ap (R.mul (F r i j)) (zero_mul R L (u j)) ∙ mul_zero R L (F r i j))))
+          (sum_zeros R L o1 _ (λ c g. ap (λ a. R.mul a (u (v1 + c))) (sum_zeros R L v1 _ (λ i h. ap (R.mul (F r i (v1 + c))) (nil i h) ∙ mul_zero R L (F r i (v1 + c)))) ∙ zero_mul R L (u (v1 + c))))
           ∙ L.add_zero 0 z0

@@ -6,11 +6,11 @@ use Rattle.algebra.specs.Commutative.{Commutative, total, apply}
 use Rattle.algebra.specs.Rings.{Ring, RingLaws}
 use Rattle.algebra.specs.Matrices.{applied}
 use Rattle.algebra.specs.Masks.{mask_s, mask_t, negated, second_of, Undoes, MaskSInverse, MaskTInverse}
-use Rattle.algebra.proofs.Laws.{add_left, neg_cancel, mul_neg, neg_mul, neg_only}
+use Rattle.algebra.proofs.Laws.{add_left, nil_mul, neg_cancel, mul_neg, neg_mul, neg_only}
 use Rattle.algebra.proofs.Totals.{total_nil, total_add}
 use Rattle.algebra.proofs.Codes.{Code, codes, code, code_known, nil_code, one_code}
 use Rattle.algebra.proofs.Bridge.{vector, matrix, code_back, code_number, mul_of, neg_of, sum_of, applied_of, applied_vector}
-use Rattle.algebra.proofs.Blocks.{nil_mul, blocks, Cancel, undone}
+use Rattle.algebra.proofs.Blocks.{blocks, Cancel, undone}
 
 module _ {A : Type 0} (S : Commutative A) where
   neg_add : (a : A) → S.add (S.neg a) a ≡ S.nil

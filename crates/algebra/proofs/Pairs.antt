@@ -1,7 +1,7 @@
 -- The pairs low + high e, with e e = e + c, over a commutative ring. Assumes nothing.
 use Rattle.std.proofs.Common.{◌≡◌, ◌⊎◌, sym, refl, ap, ◌∙◌, inl, inr}
 use Rattle.algebra.specs.Commutative.{Commutative}
-use Rattle.algebra.proofs.Laws.{add_left, mul_left, add_mul, nil_add, neg_cancel, neg_only, mul_nil, mul_neg, neg_mul, neg_neg, neg_nil, cancel_two}
+use Rattle.algebra.proofs.Laws.{add_left, mul_left, add_mul, nil_add, neg_cancel, neg_only, mul_nil, nil_mul, mul_neg, neg_mul, neg_neg, neg_nil, cancel_two}
 
 -- the low part of (l + h e) (m + k e)
 abbrev pub low : {A : Type 0} → Commutative A → A → A → A → A → A → A
@@ -62,7 +62,7 @@ module _ {A : Type 0} (S : Commutative A) (c : A) where
           | inl z ↦ z
           | inr z ↦
               let (k, u) = inverse l z in
-              sym (S.mul_one l) ∙ ap (S.mul l) (sym u) ∙ sym (S.mul_assoc l l k) ∙ ap (λ t. S.mul t k) e ∙ S.mul_comm S.nil k ∙ mul_nil S k
+              sym (S.mul_one l) ∙ ap (S.mul l) (sym u) ∙ sym (S.mul_assoc l l k) ∙ ap (λ t. S.mul t k) e ∙ nil_mul S k
         ]
 
     -- h is a unit: then - l / h is a root

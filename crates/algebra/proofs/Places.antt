@@ -1,9 +1,9 @@
 -- Sums in which few places count. Assumes nothing.
-use Rattle.std.proofs.Common.{◌≡◌, ℕ, zero, suc, ◌+◌, ◌<◌, ◌≤◌, ◌≢◌, sym, ap, ◌∙◌, ap₂, add-zero, add-suc, arith}
+use Rattle.std.proofs.Common.{◌≡◌, ℕ, zero, suc, ◌+◌, ◌<◌, ◌≤◌, ◌≢◌, sym, ap, ◌∙◌, ap₂, arith}
 use native.Mathlib.Decide.{ℕ_discrete}
 use Rattle.algebra.specs.Commutative.{Commutative, total, apply}
 use Rattle.algebra.proofs.Laws.{nil_add, mul_nil, neg_only, neg_neg, mul_neg}
-use Rattle.algebra.proofs.Totals.{total_ext, total_nil, total_add}
+use Rattle.algebra.proofs.Totals.{total_ext, total_nil, total_add, total_split}
 
 module _ {A : Type 0} (S : Commutative A) where
   -- no place counts
@@ -32,11 +32,6 @@ module _ {A : Type 0} (S : Commutative A) where
             ap₂ S.add (total_two n f i d l (omega arith) (λ j g. h j (omega arith))) (h n (omega arith) (λ q. omega arith) (λ q. e (sym q))) ∙ S.add_nil (S.add (f i) (f d))
       ]
 
-  pub total_split : (n m : ℕ) (f : ℕ → A) → total S (n + m) f ≡ S.add (total S n f) (total S m (λ k. f (n + k)))
-  unfolding total
-  total_split n zero f = rw add-zero (sym (S.add_nil (total S n f)))
-  total_split n (suc m) f = rw add-suc (ap (λ t. S.add t (f (n + m))) (total_split n m f) ∙ S.add_assoc (total S n f) (total S m (λ k. f (n + k))) (f (n + m)))
-
   pub total_neg : (n : ℕ) (f : ℕ → A) → total S n (λ j. S.neg (f j)) ≡ S.neg (total S n f)
   total_neg n f =
       neg_only S (total S n f) (total S n (λ j. S.neg (f j))) (sym (total_add S n f (λ j. S.neg (f j))) ∙ total_none n _ (λ j l. S.add_neg (f j)))
@@ -48,7 +43,7 @@ module _ {A : Type 0} (S : Commutative A) where
   pub apply_short : (n m : ℕ) (M : ℕ → ℕ → A) (z : ℕ → A) (i : ℕ) → ((j : ℕ) → n ≤ j → z j ≡ S.nil) → apply S (n + m) M z i ≡ apply S n M z i
   unfolding apply
   apply_short n m M z i h =
-      total_split n m (λ j. S.mul (M i j) (z j))
+      total_split S n m (λ j. S.mul (M i j) (z j))
       ∙ ap (S.add (total S n (λ j. S.mul (M i j) (z j)))) (total_none m _ (λ k l. ap (S.mul (M i (n + k))) (h (n + k) (omega arith)) ∙ mul_nil S _))
       ∙ S.add_nil _
 

@@ -5,11 +5,10 @@ use Rattle.algebra.specs.Commutative.{Commutative, apply, times}
 use Rattle.algebra.specs.Rings.{Ring, RingLaws, IsInverse}
 use Rattle.algebra.specs.Sums.{dot_of}
 use Rattle.algebra.specs.Systems.{Vector, Solves, unit_matrix, Singular, Regular, Inverse}
-use Rattle.algebra.proofs.Laws.{one_mul}
+use Rattle.algebra.proofs.Laws.{one_mul, nil_mul}
 use Rattle.algebra.proofs.Totals.{times_apply, total_nil}
 use Rattle.algebra.proofs.Codes.{Code, codes, code, mul_zero, sum_code}
 use Rattle.algebra.proofs.Places.{total_one}
-use Rattle.algebra.proofs.Blocks.{nil_mul}
 use Rattle.algebra.proofs.Bridge.{code_back, code_number, mul_of, mul_by, sum_of}
 use Rattle.algebra.proofs.Elimination.{pick, pick_yes, pick_no}
 use Rattle.algebra.proofs.Systems.{Filled, RowsSwapped, RowScaled, ColumnCleared, Kept, kept_none, kept_more, kept_solution, dependent, dependent_ext, dependent_singular, solution_ext, dot_ext, unit_here, unit_off, unit_code, inverse}
@@ -182,9 +181,6 @@ module _ (R : Ring) (L : RingLaws R) (inv : ℕ → Option ℕ) (I : (a : ℕ) �
         let X : ℕ → ℕ → ℕ = λ i k. B i (n + k) in
         let f : Filled R X = λ i k. K.after i (n + k) in
         (X, (f, inverse R L n A X h f (solution_ext R n n (beside n A) (λ i k. beside n A i (n + k)) X A unit_matrix X (λ i j p g. beside_left n A i j g) (λ i k p g. beside_right n A i k) (λ i k p g. refl) (kept_solution R L n n (beside n A) B K))))
-
-    pub regular : Regular R n A
-    regular = let (X, (f, V)) = invertible in inverse_regular R L n A X V
 
   pub solvable : (n : ℕ) (A : ℕ → ℕ → ℕ) (b : ℕ → ℕ) → Filled R A → Vector R n b → (Singular R n A → ⊥) → (x : ℕ → ℕ) × (Vector R n x × Solves R n A b x)
   solvable n A b h v s =

@@ -1,9 +1,10 @@
 -- Sums over codes that agree term by term. Assumes nothing.
 use Rattle.std.proofs.Common.{◌≡◌, ℕ, zero, suc, ◌<◌, ◌≤◌, sym, refl, ap, ◌∙◌, ap₂, arith}
 use native.Mathlib.Decide.{dec_lt}
-use Rattle.algebra.specs.Rings.{Ring}
+use Rattle.algebra.specs.Rings.{Ring, RingLaws}
 use Rattle.algebra.specs.Sums.{sum}
 use Rattle.algebra.specs.Forms.{form_at}
+use Rattle.algebra.proofs.Codes.{nil_code}
 
 module _ (R : Ring) where
   pub sum_ext : (n : ℕ) (f g : ℕ → ℕ) → ((i : ℕ) → i < n → f i ≡ g i) → sum R n f ≡ sum R n g
@@ -21,3 +22,8 @@ module _ (R : Ring) where
   pub form_upper : (n : ℕ) (P Q : ℕ → ℕ → ℕ) (x : ℕ → ℕ) → ((i j : ℕ) → i ≤ j → j < n → P i j ≡ Q i j) → ((i j : ℕ) → j < i → i < n → P i j ≡ 0) → ((i j : ℕ) → j < i → i < n → Q i j ≡ 0) → form_at R n P x ≡ form_at R n Q x
   form_upper n P Q x h p q =
       form_entries n P Q x (λ i j l k. elim (dec_lt j i) [ yes d ↦ p i j d l ∙ sym (q i j d l) | no d ↦ h i j (omega arith) k ])
+
+-- a sum of zeros
+pub sum_zeros : (R : Ring) (L : RingLaws R) (n : ℕ) (f : ℕ → ℕ) → ((k : ℕ) → k < n → f k ≡ 0) → sum R n f ≡ 0
+sum_zeros R L zero f h = refl
+sum_zeros R L (suc n) f h = ap₂ R.add (sum_zeros R L n f (λ k l. h k (omega arith))) (h n (omega arith)) ∙ L.add_zero 0 (nil_code R L)

@@ -1,13 +1,14 @@
 -- Square systems over codes: what elimination keeps, and what it ends with. Assumes nothing.
-use Rattle.std.proofs.Common.{◌≡◌, ℕ, zero, suc, ◌+◌, ◌<◌, ◌≤◌, eqb, sym, refl, ap, ◌∙◌, ap₂, add-one, arith, eq-eqb, ne_eqb}
+use Rattle.std.proofs.Common.{◌≡◌, ℕ, suc, ◌+◌, ◌<◌, ◌≤◌, eqb, sym, refl, ap, ◌∙◌, ap₂, add-one, arith, eq-eqb, ne_eqb}
 use native.Mathlib.Decide.{dec_lt, ℕ_discrete}
 use Rattle.std.proofs.lemmas.Bool.{cond-true, cond-false}
 use Rattle.algebra.specs.Commutative.{Commutative, apply, times}
 use Rattle.algebra.specs.Rings.{Ring, RingLaws}
-use Rattle.algebra.specs.Sums.{sum, dot_of}
+use Rattle.algebra.specs.Sums.{dot_of}
 use Rattle.algebra.specs.Systems.{Vector, ZeroFrom, Solves, Annuls, unit_matrix, Singular, Regular, FirstDependent, Solution, Inverse}
-use Rattle.algebra.proofs.Laws.{one_mul, mul_nil}
+use Rattle.algebra.proofs.Laws.{one_mul, nil_mul}
 use Rattle.algebra.proofs.Codes.{Code, same, codes, sum_total, nil_code, one_code}
+use Rattle.algebra.proofs.SumLaws.{sum_ext}
 use Rattle.algebra.proofs.Places.{total_one, apply_short}
 use Rattle.algebra.proofs.Elimination.{Kernel, Going, going_none, Swap, going_swap, Scale, going_scale, Clear, going_clear, relation, relation_at, relation_else, relation_kernel, only_nil, solution, solution_only, both_sides}
 
@@ -40,12 +41,8 @@ unfolding unit_matrix
 unit_off i j h = cond-false (eqb i j) 1 0 (ne_eqb i j h)
 
 module _ (R : Ring) where
-  pub sum_ext : (n : ℕ) (f g : ℕ → ℕ) → ((j : ℕ) → j < n → f j ≡ g j) → sum R n f ≡ sum R n g
-  sum_ext zero f g h = refl
-  sum_ext (suc n) f g h = ap₂ R.add (sum_ext n f g (λ j l. h j (omega arith))) (h n (omega arith))
-
   pub dot_ext : (n : ℕ) (a b x y : ℕ → ℕ) → ((j : ℕ) → j < n → a j ≡ b j) → ((j : ℕ) → j < n → x j ≡ y j) → dot_of R n a x ≡ dot_of R n b y
-  dot_ext n a b x y h g = sum_ext n _ _ (λ j l. ap₂ R.mul (h j l) (g j l))
+  dot_ext n a b x y h g = sum_ext R n _ _ (λ j l. ap₂ R.mul (h j l) (g j l))
 
   abbrev lift : (M : ℕ → ℕ → ℕ) → Filled R M → ℕ → ℕ → Code R
   lift M h i j = (M i j, h i j)
@@ -90,6 +87,13 @@ module _ (R : Ring) where
     past = D.past;
     annuls = λ i p. dot_ext n _ _ D.vector D.vector (λ j h. sym (a i j p h)) (λ j h. refl) ∙ D.annuls i p;
     first = λ d l x v z s. D.first d l x v z (λ i p. dot_ext n _ _ x x (λ j h. a i j p h) (λ j h. refl) ∙ s i p);
+  }
+
+  pub inverse_ext : (n : ℕ) (A C X Y : ℕ → ℕ → ℕ) → ((i j : ℕ) → i < n → j < n → A i j ≡ C i j) → ((i j : ℕ) → i < n → j < n → X i j ≡ Y i j) → Inverse R n A X → Inverse R n C Y
+  inverse_ext n A C X Y h k V = record {
+    codes = λ i j l g. let e = k i j l g in let c = V.codes i j l g in omega arith;
+    right = λ i j l g. dot_ext n _ _ _ _ (λ t p. sym (h i t l p)) (λ t p. sym (k t j p g)) ∙ V.right i j l g;
+    left = λ i j l g. dot_ext n _ _ _ _ (λ t p. sym (k i t l p)) (λ t p. sym (h t j p g)) ∙ V.left i j l g;
   }
 
 module _ (R : Ring) (L : RingLaws R) where
@@ -275,7 +279,7 @@ module _ (R : Ring) (L : RingLaws R) where
       here = same R _ _ (unit_here i)
 
       other : (j : ℕ) → j < n → (j ≡ i → ⊥) → S.mul (U i j) (z j) ≡ S.nil
-      other j g h = ap (λ t. S.mul t (z j)) (same R (U i j) S.nil (unit_off i j (λ e. h (sym e)))) ∙ S.mul_comm S.nil (z j) ∙ mul_nil S (z j)
+      other j g h = ap (λ t. S.mul t (z j)) (same R (U i j) S.nil (unit_off i j (λ e. h (sym e)))) ∙ nil_mul S (z j)
 
   -- the one solution of A X = 1 is the inverse
   pub inverse : (n : ℕ) (A X : ℕ → ℕ → ℕ) → Filled R A → Filled R X → Solution R n n A unit_matrix X → Inverse R n A X

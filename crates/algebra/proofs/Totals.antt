@@ -1,5 +1,5 @@
 -- Sums, matrix products and quadratic forms over a commutative ring. Assumes nothing.
-use Rattle.std.proofs.Common.{◌≡◌, ℕ, zero, suc, ◌<◌, sym, refl, ap, ◌∙◌, ap₂, arith}
+use Rattle.std.proofs.Common.{◌≡◌, ℕ, zero, suc, ◌+◌, ◌<◌, sym, refl, ap, ◌∙◌, ap₂, add-zero, add-suc, arith}
 use mathlib.Core.Path.{fun_ext}
 use Rattle.algebra.specs.Commutative.{Commutative, total, apply, dot, value, times, transposed}
 use Rattle.algebra.proofs.Laws.{add_left, mul_left, mul_nil}
@@ -22,6 +22,11 @@ module _ {A : Type 0} (S : Commutative A) where
   unfolding total
   total_add zero f g = sym (S.add_nil S.nil)
   total_add (suc n) f g = ap (λ s. S.add s (S.add (f n) (g n))) (total_add n f g) ∙ medial (total S n f) (total S n g) (f n) (g n)
+
+  pub total_split : (n m : ℕ) (f : ℕ → A) → total S (n + m) f ≡ S.add (total S n f) (total S m (λ k. f (n + k)))
+  unfolding total
+  total_split n zero f = rw add-zero (sym (S.add_nil (total S n f)))
+  total_split n (suc m) f = rw add-suc (ap (λ t. S.add t (f (n + m))) (total_split n m f) ∙ S.add_assoc (total S n f) (total S m (λ k. f (n + k))) (f (n + m)))
 
   pub total_mul : (n : ℕ) (a : A) (f : ℕ → A) → total S n (λ i. S.mul a (f i)) ≡ S.mul a (total S n f)
   unfolding total

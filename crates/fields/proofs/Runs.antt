@@ -1,7 +1,8 @@
 -- Packed runs of codes, read and written. Assumes nothing.
 use Rattle.std.proofs.Common.{◌≡◌, ℕ, zero, suc, ◌+◌, ◌*◌, ◌/◌, ◌%◌, ◌<◌, ◌≤◌, min, cond, eqb, ltb, ◌≢◌, ◌⊎◌, List, [], ◌∷◌, length, get_or, drop, set, Some, None, Option, sym, refl, ap, ◌∙◌, subst, ap₂, inl, inr, le_of_suc-le-suc, not-suc-le-zero, add-zero, zero-add, arith, w8, Fits, le-ltb, lt-ltb, eq-eqb, ne_eqb}
 use Rattle.std.specs.List.{AllByRecursion}
-use Rattle.std.proofs.lemmas.List.{get_or-drop, get_or_past, drop_all, ext_get_or, length-set, get_or-set_same, get_or-set_other, set_past}
+use Rattle.std.proofs.Math.Nat.{min_comm}
+use Rattle.std.proofs.lemmas.List.{get_or-drop, get_or_past, drop_min, ext_get_or, length-set, get_or-set_same, get_or-set_other, set_past}
 use Rattle.std.proofs.lemmas.Bool.{cond-true, cond-false, cases_lt, cases_eq}
 use Rattle.std.proofs.lemmas.List.FromFn.{length-map-range_with_len, get_or-map-range_with_len}
 use Rattle.fields.specs.Packing.{packed_length, half, code_at, byte_at, with_half, put_code, codes_from, in_pairs, packed, or_else, first_foreign, RunsReadBack}
@@ -52,14 +53,11 @@ foreign_found q f k (suc n) e h l =
           ap (λ (o : Option ℕ). or_else o (cond (ltb (f n) q) None (Some (suc n)))) (foreign_found q f k n e h (omega arith))
     ]
 
-pub foreign_none : (q : ℕ) (f : ℕ → ℕ) → first_foreign q f 0 ≡ None
+-- a run of codes has no foreign one
+pub none_foreign : (q : ℕ) (f : ℕ → ℕ) (n : ℕ) → ((k : ℕ) → k < n → f k < q) → first_foreign q f n ≡ None
 unfolding first_foreign
-foreign_none q f = refl
-
-pub none_foreign : (q : ℕ) (f : ℕ → ℕ) → ((k : ℕ) → f k < q) → (n : ℕ) → first_foreign q f n ≡ None
-unfolding first_foreign
-none_foreign q f h zero = refl
-none_foreign q f h (suc n) = foreign_more q f n (none_foreign q f h n) (h n)
+none_foreign q f zero h = refl
+none_foreign q f (suc n) h = foreign_more q f n (none_foreign q f n (λ k l. h k (omega arith))) (h n (omega arith))
 
 -- every byte is a run of codes where q is 16 or 256
 pub full_16 : (q : ℕ) (run : List ℕ) → q ≡ 16 → ((i : ℕ) → Fits w8 (get_or run i 0)) → (k : ℕ) → code_at q run k < q
@@ -72,23 +70,31 @@ full_16 q run e h k =
 pub full_256 : (q : ℕ) (run : List ℕ) → q ≡ 256 → ((i : ℕ) → Fits w8 (get_or run i 0)) → (k : ℕ) → code_at q run k < q
 full_256 q run e h k = let l = wide_at q run k (omega arith) in let b = h k in omega arith
 
-drop_min : (xs : List ℕ) (a : ℕ) → drop (min (length xs) a) xs ≡ drop a xs
-drop_min xs a =
-    elim (cases_lt (length xs) a) [
-      | inl h ↦ let e : min (length xs) a ≡ length xs = omega arith in ap (λ (n : ℕ). drop n xs) e ∙ drop_all (length xs) xs (omega arith) ∙ sym (drop_all a xs (omega arith))
-      | inr h ↦ let e : min (length xs) a ≡ a = omega arith in ap (λ (n : ℕ). drop n xs) e
-    ]
+-- codes that were read
+pub length_from : (q : ℕ) (run : List ℕ) (at n : ℕ) → length (codes_from q run at n) ≡ n
+unfolding codes_from
+length_from q run at n = length-map-range_with_len (λ i. code_at q run (at + i)) 0 n
+
+pub get_or_from : (q : ℕ) (run : List ℕ) (at n k : ℕ) → k < n → get_or (codes_from q run at n) k 0 ≡ code_at q run (at + k)
+unfolding codes_from
+get_or_from q run at n k h = get_or-map-range_with_len (λ i. code_at q run (at + i)) 0 n k k 0 h (zero-add k)
+
+pub get_or_read : (q : ℕ) (run xs : List ℕ) (n k : ℕ) → xs ≡ codes_from q run 0 n → k < n → get_or xs k 0 ≡ code_at q run k
+get_or_read q run xs n k e h = ap (λ (ys : List ℕ). get_or ys k 0) e ∙ get_or_from q run 0 n k h ∙ ap (code_at q run) (zero-add k)
+
+past_min : (xs : List ℕ) (a : ℕ) → drop (min (length xs) a) xs ≡ drop a xs
+past_min xs a = ap (λ (n : ℕ). drop n xs) (min_comm (length xs) a) ∙ drop_min a xs
 
 -- A run without the bytes before place `from`.
 pub rest_wide : (q : ℕ) (run : List ℕ) (from i : ℕ) → 16 < q → code_at q (drop (min (length run) (from / 1)) run) (from % 1 + i) ≡ code_at q run (from + i)
 rest_wide q run from i h =
     let e : from / 1 + (from % 1 + i) ≡ from + i = omega arith in
-    ap (λ (r : List ℕ). code_at q r (from % 1 + i)) (drop_min run (from / 1)) ∙ wide_drop q run (from / 1) (from % 1 + i) h ∙ ap (code_at q run) e
+    ap (λ (r : List ℕ). code_at q r (from % 1 + i)) (past_min run (from / 1)) ∙ wide_drop q run (from / 1) (from % 1 + i) h ∙ ap (code_at q run) e
 
 pub rest_narrow : (q : ℕ) (run : List ℕ) (from i : ℕ) → q ≤ 16 → code_at q (drop (min (length run) (from / 2)) run) (from % 2 + i) ≡ code_at q run (from + i)
 rest_narrow q run from i h =
     let e : 2 * (from / 2) + (from % 2 + i) ≡ from + i = omega arith in
-    ap (λ (r : List ℕ). code_at q r (from % 2 + i)) (drop_min run (from / 2)) ∙ narrow_drop q run (from / 2) (from % 2 + i) h ∙ ap (code_at q run) e
+    ap (λ (r : List ℕ). code_at q r (from % 2 + i)) (past_min run (from / 2)) ∙ narrow_drop q run (from / 2) (from % 2 + i) h ∙ ap (code_at q run) e
 
 pub all_at : (q : ℕ) (cs : List ℕ) → AllByRecursion (λ c. c < q) cs → (k : ℕ) → k < length cs → get_or cs k 0 < q
 all_at q [] a k h = absurd (not-suc-le-zero h)
@@ -167,15 +173,14 @@ code_back q cs a k l =
     ]
 
 pub read_back : (q : ℕ) → RunsReadBack q
-unfolding codes_from
-read_back q cs a = record {
-  codes =
-      ext_get_or 0 (codes_from q (packed q cs) 0 (length cs)) cs (length-map-range_with_len (λ i. code_at q (packed q cs) (0 + i)) 0 (length cs))
-      (λ k h.
-      let l : k < length cs = let e = length-map-range_with_len (λ i. code_at q (packed q cs) (0 + i)) 0 (length cs) in omega arith in
-      get_or-map-range_with_len (λ i. code_at q (packed q cs) (0 + i)) 0 (length cs) k k 0 l (zero-add k) ∙ ap (code_at q (packed q cs)) (zero-add k) ∙ code_back q cs a k l);
-  bytes = length_packed q cs;
-}
+read_back q cs a =
+    let e = length_from q (packed q cs) 0 (length cs) in
+    record {
+      codes =
+          ext_get_or 0 (codes_from q (packed q cs) 0 (length cs)) cs e
+          (λ k h. let l : k < length cs = omega arith in get_or_read q (packed q cs) _ (length cs) k refl l ∙ code_back q cs a k l);
+      bytes = length_packed q cs;
+    }
 
 -- A code written at its place.
 pub wide_byte : (q k : ℕ) → 16 < q → byte_at q k ≡ k

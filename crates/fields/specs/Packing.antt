@@ -1,6 +1,7 @@
 -- Codes in bytes: a ring of more than 16 codes has one code a byte, any other two, the first in the low four bits.
-use Rattle.std.specs.Prelude.{◌≡◌, ℕ, zero, suc, ◌+◌, ◌*◌, ◌/◌, ◌%◌, ◌<◌, cond, List, [], ◌∷◌, map, length, Some, None, Option, ◌==◌, nat_lt, slice_index, slice_set}
+use Rattle.std.specs.Prelude.{◌≡◌, ℕ, zero, suc, ◌+◌, ◌*◌, ◌/◌, ◌%◌, ◌<◌, cond, List, [], ◌∷◌, map, length, Some, None, Ok, Err, Option, Result, ◌==◌, nat_lt, slice_index, slice_set}
 use Rattle.std.specs.List.{range_with_len, AllByRecursion}
+use Rattle.fields.specs.declared.packing.Misfit.{Misfit}
 
 -- how many bytes a run of n codes takes
 unfoldable pub packed_length : ℕ → ℕ → ℕ
@@ -57,3 +58,8 @@ pub record ReadBack (q : ℕ) (cs : List ℕ) : Type 0 where
 
 abbrev pub RunsReadBack : ℕ → Type 0
 RunsReadBack q = (cs : List ℕ) → AllByRecursion (λ c. c < q) cs → ReadBack q cs
+
+-- Whether the codes were written as a packed run: they are where the run has its length, else it is as it was.
+abbrev pub CodesWritten : ℕ → List ℕ → List ℕ → Result Unit Misfit → List ℕ → Type 0
+CodesWritten q codes run (Ok _) run' = (length run ≡ packed_length q (length codes)) × (run' ≡ packed q codes)
+CodesWritten q codes run (Err _) run' = (length run ≡ packed_length q (length codes) → ⊥) × (run' ≡ run)

@@ -11,6 +11,7 @@ pub use bits::Gf2;
 pub use extension::{Extensible, Gf4, Gf16, Gf256, QuadraticExtension, gf4, gf16, gf256};
 pub use modular::{Mod31, Modulo};
 pub use packing::{
-    first_foreign, packed_len, read_code, read_codes, runs_read_back, write_code, write_codes,
+    Misfit, first_foreign, packed_len, read_code, read_codes, runs_read_back, write_code,
+    write_codes,
 };
 pub use rings::{Field, Ring};

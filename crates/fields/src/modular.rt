@@ -6,38 +6,6 @@ ghost use Rattle.algebra.proofs.ModularLaws.{modular_laws, inverse31_right};
 
 use super::rings::{Field, Ring};
 
-// The sum of two codes modulo q.
-fn sum_modulo(q: u8, a: u8, b: u8) -> u8
-    requires { 2 ≤ q }
-    ensures { result ≡ (modular q).add a b }
-{
-    if a < q && b < q {
-        ((a as u16 + b as u16) % q as u16) as u8
-    } else {
-        0
-    }
-}
-
-// The negative of a code modulo q.
-fn negative_modulo(q: u8, a: u8) -> u8
-    requires { 2 ≤ q }
-    ensures { result ≡ (modular q).neg a }
-{
-    if a < q { (q - a) % q } else { 0 }
-}
-
-// The product of two codes modulo q.
-fn product_modulo(q: u8, a: u8, b: u8) -> u8
-    requires { 2 ≤ q }
-    ensures { result ≡ (modular q).mul a b }
-{
-    if a < q && b < q {
-        (a as u16 * b as u16 % q as u16) as u8
-    } else {
-        0
-    }
-}
-
 // The integers modulo q, a ring for every q from 2 to 255.
 #[derive(Clone, Copy)]
 pub struct Modulo {
@@ -65,19 +33,37 @@ impl Ring for Modulo {
     }
 
     fn sum(&self, a: u8, b: u8) -> u8 {
-        sum_modulo(self.q, a, b)
+        let q = self.q;
+        if a < q && b < q {
+            ((a as u16 + b as u16) % q as u16) as u8
+        } else {
+            0
+        }
     }
 
     fn negative(&self, a: u8) -> u8 {
-        negative_modulo(self.q, a)
+        let q = self.q;
+        if a < q { (q - a) % q } else { 0 }
     }
 
     fn product(&self, a: u8, b: u8) -> u8 {
-        product_modulo(self.q, a, b)
+        let q = self.q;
+        if a < q && b < q {
+            (a as u16 * b as u16 % q as u16) as u8
+        } else {
+            0
+        }
     }
 }
 
-// The integers modulo 31.
+// The integers modulo 31 as a ring.
+fn modulo_31() -> Modulo
+    ensures { result.q ≡ 31 }
+{
+    Modulo { q: 31 }
+}
+
+// The integers modulo 31, a field.
 #[derive(Clone, Copy)]
 pub struct Mod31;
 
@@ -97,15 +83,15 @@ impl Ring for Mod31 {
     }
 
     fn sum(&self, a: u8, b: u8) -> u8 {
-        sum_modulo(31, a, b)
+        modulo_31().sum(a, b)
     }
 
     fn negative(&self, a: u8) -> u8 {
-        negative_modulo(31, a)
+        modulo_31().negative(a)
     }
 
     fn product(&self, a: u8, b: u8) -> u8 {
-        product_modulo(31, a, b)
+        modulo_31().product(a, b)
     }
 }
 

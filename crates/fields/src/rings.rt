@@ -20,12 +20,13 @@ pub trait Ring {
         ensures { result ≡ (ring self.now).mul a b };
 
     // acc += t * row, place by place, as far as both reach.
+    // By index into `acc`: a loop over a `zip` with `iter_mut` does not say what it wrote.
     fn add_multiple(&self, acc: &mut [u8], t: u8, row: &[u8])
         ensures { acc.new ≡ plus_times (ring self.now) t acc.old row.now }
     {
         let n = acc.len().min(row.len());
-        for i in 0..n {
-            acc[i] = self.sum(acc[i], self.product(t, row[i]));
+        for (i, &b) in row[..n].iter().enumerate() {
+            acc[i] = self.sum(acc[i], self.product(t, b));
         }
     }
 

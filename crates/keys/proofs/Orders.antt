@@ -1,23 +1,22 @@
 -- The first test that gives something. Assumes nothing.
-use Rattle.std.proofs.Common.{◌≡◌, ℕ, ◌+◌, ◌<◌, ◌≤◌, Bool, true, false, not, eqb, List, [], ◌∷◌, ◌++◌, map, length, get_or, drop, is_some, Some, None, Option, sym, refl, ap, ◌∙◌, ap₂, arith}
-use Rattle.std.specs.Option.{option_map}
-use Rattle.std.proofs.lemmas.List.{drop_all, drop_more}
-use Rattle.fields.specs.Packing.{or_else, packed_length, code_at, first_foreign}
-use Rattle.keys.specs.declared.refusals.Buffer.{Buffer}
+use Rattle.std.proofs.Common.{◌≡◌, ℕ, ◌+◌, ◌<◌, Bool, true, false, List, [], ◌∷◌, ◌++◌, map, length, get_or, drop, Some, None, Ok, Err, Option, Result, sym, refl, ap, ◌∙◌, arith}
+use Rattle.std.specs.Result.{IsErrAnd}
+use Rattle.std.proofs.lemmas.Result.{err_from_is_err_and}
+use Rattle.std.proofs.lemmas.List.{at_drop_more}
+use Rattle.fields.specs.Packing.{or_else}
 use Rattle.keys.specs.declared.refusals.Refusal.{Refusal}
-use Rattle.keys.specs.declared.refusals.Refusal.TheVariants.{WrongLength, ForeignCode}
-use Rattle.keys.specs.Refusals.{Told, told, test, first, packed_run, length_test, codes_test}
+use Rattle.keys.specs.Refusals.{Told, told, test, first, Answers}
 
 pub pass : (t : Option Told) (ts : List (Option Told)) → t ≡ None → first (t ∷ ts) ≡ first ts
 pass t ts e = ap (λ (u : Option Told). or_else u (first ts)) e
 
-pub stop : (t : Option Told) (ts : List (Option Told)) (x : Told) → t ≡ Some x → first (t ∷ ts) ≡ Some x
+stop : (t : Option Told) (ts : List (Option Told)) (x : Told) → t ≡ Some x → first (t ∷ ts) ≡ Some x
 stop t ts x e = ap (λ (u : Option Told). or_else u (first ts)) e
 
 pub some_none : (x : Told) → Some x ≡ None → ⊥
 some_none x e = let z : ◌≡◌ {A = ℕ} 0 1 = cc in omega arith
 
-pub parts : (t u : Option Told) → or_else t u ≡ None → (t ≡ None) × (u ≡ None)
+parts : (t u : Option Told) → or_else t u ≡ None → (t ≡ None) × (u ≡ None)
 parts None u e = (refl, e)
 parts (Some x) u e = (e, absurd (some_none x e))
 
@@ -25,30 +24,17 @@ pub past : (ts us : List (Option Told)) → first ts ≡ None → first (ts ++ u
 past [] us e = refl
 past (t ∷ ts) us e = let p = parts t (first ts) e in pass t (ts ++ us) p.0 ∙ past ts us p.1
 
--- two lists of tests, test by test
-pub also : {t u : Option Told} {ts us : List (Option Told)} → t ≡ u → ts ≡ us → t ∷ ts ≡ u ∷ us
-also e f = ap₂ (λ (x : Option Told) (xs : List (Option Told)). x ∷ xs) e f
+-- a list's tests are those of what is seen of it
+pub fused : {X Y Z : Type 0} (f : X → Y) (t : Y → Z) (xs : List X) → map (λ x. t (f x)) xs ≡ map t (map f xs)
+fused f t [] = refl
+fused {X} {Y} {Z} f t (x ∷ xs) = ap (λ (zs : List Z). t (f x) ∷ zs) (fused f t xs)
 
--- a test that gives what the test of a lent buffer gives
-pub length_same : (q : ℕ) (b : Buffer) (bytes : List ℕ) (h n len : ℕ) (t : Option Told) → t ≡ test (not (eqb (length bytes) len)) (WrongLength b) → len ≡ h + packed_length q n → t ≡ length_test (packed_run q b bytes h n)
-length_same q b bytes h n len t e l = e ∙ ap (λ (k : ℕ). test (not (eqb (length bytes) k)) (WrongLength b)) l
+-- a list's tests, walked from its front
+pub first_next : {X : Type 0} (t : X → Option Told) (xs : List X) (i : ℕ) (x : X) → i < length xs → x ≡ get_or xs i x → t x ≡ None → first (map t (drop i xs)) ≡ first (map t (drop (i + 1) xs))
+first_next {X} t xs i x h g e = at_drop_more (λ (ys : List X). first (map t ys)) xs i x h ∙ pass (t (get_or xs i x)) (map t (drop (i + 1) xs)) (ap t (sym g) ∙ e)
 
-pub codes_same : (q : ℕ) (b : Buffer) (bytes run : List ℕ) (h n k : ℕ) (t : Option Told) → t ≡ option_map (λ place. told (ForeignCode b place)) (first_foreign q (code_at q run) k) → run ≡ drop h bytes → k ≡ n → t ≡ codes_test q (packed_run q b bytes h n)
-codes_same q b bytes run h n k t e r l = e ∙ ap₂ (λ (xs : List ℕ) (m : ℕ). option_map (λ place. told (ForeignCode b place)) (first_foreign q (code_at q xs) m)) r l
-
--- a list of refusals, walked from its front
-pub first_none : (ts : List (Option Refusal)) (i : ℕ) → length ts ≤ i → first (map (option_map told) (drop i ts)) ≡ None
-first_none ts i h = ap (λ (us : List (Option Refusal)). first (map (option_map told) us)) (drop_all i ts h)
-
-pub first_some : (ts : List (Option Refusal)) (i : ℕ) (e : Refusal) → i < length ts → get_or ts i None ≡ Some e → first (map (option_map told) (drop i ts)) ≡ Some (told e)
-first_some ts i e h s =
-    ap (λ (us : List (Option Refusal)). first (map (option_map told) us)) (drop_more ts i None h)
-    ∙ ap (λ (o : Option Refusal). first (option_map told o ∷ map (option_map told) (drop (i + 1) ts))) s
-
-pub first_next : (ts : List (Option Refusal)) (i : ℕ) → i < length ts → get_or ts i None ≡ None → first (map (option_map told) (drop i ts)) ≡ first (map (option_map told) (drop (i + 1) ts))
-first_next ts i h s =
-    ap (λ (us : List (Option Refusal)). first (map (option_map told) us)) (drop_more ts i None h)
-    ∙ ap (λ (o : Option Refusal). first (option_map told o ∷ map (option_map told) (drop (i + 1) ts))) s
+pub first_some : {X : Type 0} (t : X → Option Told) (xs : List X) (i : ℕ) (x : X) (r : Told) → i < length xs → x ≡ get_or xs i x → t x ≡ Some r → first (map t (drop i xs)) ≡ Some r
+first_some {X} t xs i x r h g e = at_drop_more (λ (ys : List X). first (map t ys)) xs i x h ∙ stop (t (get_or xs i x)) (map t (drop (i + 1) xs)) r (ap t (sym g) ∙ e)
 
 -- what the first tests of a list give, all of it gives
 pub early : (ts us : List (Option Told)) (x : Told) → first ts ≡ Some x → first (ts ++ us) ≡ Some x
@@ -69,10 +55,11 @@ pub all_none : (ts : List (Option Told)) → first ts ≡ None → AllNone ts
 all_none [] e = tt
 all_none (t ∷ ts) e = let p = parts t (first ts) e in (p.0, all_none ts p.1)
 
-pub not_some : (o : Option Told) → o ≡ None → is_some o ≡ true → ⊥
-not_some None e h = let z : ◌≡◌ {A = ℕ} 0 1 = cc in omega arith
-not_some (Some x) e h = some_none x e
+-- an early return with the refusal that the tests give
+pub refused : {A : Type 0} (P : A → Type 0) (t : Option Told) (r : Result A Refusal) (d : Refusal) → IsErrAnd r (λ e. e ≡ d) → t ≡ Some (told d) → Answers t r P
+refused P t r d h e = let p = err_from_is_err_and r h in rw (p.1, p.2) e
 
-pub not_none : (o : Option Told) (x : Told) → o ≡ Some x → is_some o ≡ false → ⊥
-not_none None x e h = some_none x (sym e)
-not_none (Some y) x e h = let z : ◌≡◌ {A = ℕ} 0 1 = cc in omega arith
+-- tests that give nothing, and then others
+pub after : {A : Type 0} (P : A → Type 0) (ts us : List (Option Told)) (r : Result A Refusal) → first ts ≡ None → Answers (first us) r P → Answers (first (ts ++ us)) r P
+after P ts us (Ok a) e h = (past ts us e ∙ h.0, h.1)
+after P ts us (Err d) e h = past ts us e ∙ h

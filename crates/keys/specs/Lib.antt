@@ -2,3 +2,4 @@ pub mod Shapes
 pub mod Refusals
 pub mod Heads
 pub mod Sets
+pub mod Seen

@@ -1,4 +1,4 @@
-ghost use Rattle.std.specs.Prelude.{◌≡◌, ℕ, ◌+◌, ◌<◌, ◌≤◌, length};
+ghost use Rattle.std.specs.Prelude.{◌≡◌, ℕ, ◌+◌, ◌^◌, ◌<◌, ◌≤◌, length};
 ghost use Rattle.keys.specs.Shapes.{public_codes, secret_codes};
 ghost use Rattle.keys.specs.Refusals.{Answers, first};
 ghost use Rattle.keys.specs.Heads.{head_tests, head_of, key_length};
@@ -28,18 +28,27 @@ impl Head {
         }
     }
 
+    // The length of a key of so many codes over a ring of q codes, head included.
+    fn key_len(&self, q: u16, codes: usize) -> usize
+        requires { codes ≤ 2 ^ 54 }
+        ensures { result ≡ key_length self.now.len q codes }
+    {
+        self.len as usize + packed_len(q, codes)
+    }
+
     // The length of a secret key over a ring of q codes, head included.
+    // One line here, and one for public keys: what differs is the count.
     pub fn secret_len(&self, q: u16) -> usize
         ensures { result ≡ key_length self.now.len q (secret_codes self.now.shape) }
     {
-        self.len as usize + packed_len(q, self.shape.secret_codes())
+        self.key_len(q, self.shape.secret_codes())
     }
 
     // The length of a public key over a ring of q codes, head included.
     pub fn public_len(&self, q: u16) -> usize
         ensures { result ≡ key_length self.now.len q (public_codes self.now.shape) }
     {
-        self.len as usize + packed_len(q, self.shape.public_codes())
+        self.key_len(q, self.shape.public_codes())
     }
 }
 
@@ -47,17 +56,13 @@ impl Head {
 pub fn read_head<R: Ring>(ring: &R, key: &[u8]) -> Result<Head, Refusal>
     ensures { Answers (first (head_tests (R.Ring.ring ring.now).q key.now)) result (λ h. (h ≡ head_of key.now) × (4 ≤ length key.now)) }
 {
-    if key.len() < HEAD_LEN as usize {
+    let &[first, v1, o1, o2, ..] = key else {
         return Err(Refusal::ShortHead);
-    }
-    if key[0] as u16 + 1 != ring.size() {
+    };
+    if first as u16 + 1 != ring.size() {
         return Err(Refusal::OtherField);
     }
-    let shape = Shape {
-        v1: key[1] as u16,
-        o1: key[2] as u16,
-        o2: key[3] as u16,
-    };
+    let shape = Shape::from([v1, o1, o2]);
     if !shape.is_within() {
         return Err(Refusal::OddShape);
     }

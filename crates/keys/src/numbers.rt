@@ -7,6 +7,7 @@ use std::fmt;
 
 impl Refusal {
     // The refusal's number.
+    // By hand, since a case may carry values and then has no number of its own.
     pub fn number(&self) -> u8
         ensures { result ≡ (told self.now).number }
     {

@@ -15,50 +15,51 @@ pub struct Set {
     pub shape: Shape,
 }
 
-const SETS: [Set; 4] = [
-    Set {
-        q: 16,
-        shape: Shape {
-            v1: 32,
-            o1: 32,
-            o2: 32,
-        },
+const IA: Set = Set {
+    q: 16,
+    shape: Shape {
+        v1: 32,
+        o1: 32,
+        o2: 32,
     },
-    Set {
-        q: 256,
-        shape: Shape {
-            v1: 68,
-            o1: 36,
-            o2: 36,
-        },
+};
+
+const IIIC: Set = Set {
+    q: 256,
+    shape: Shape {
+        v1: 68,
+        o1: 36,
+        o2: 36,
     },
-    Set {
-        q: 256,
-        shape: Shape {
-            v1: 92,
-            o1: 48,
-            o2: 48,
-        },
+};
+
+const VC: Set = Set {
+    q: 256,
+    shape: Shape {
+        v1: 92,
+        o1: 48,
+        o2: 48,
     },
-    Set {
-        q: 31,
-        shape: Shape {
-            v1: 1,
-            o1: 1,
-            o2: 1,
-        },
+};
+
+const K31: Set = Set {
+    q: 31,
+    shape: Shape {
+        v1: 1,
+        o1: 1,
+        o2: 1,
     },
-];
+};
 
 // The set of that name; any other name finds none.
 pub fn named(name: &str) -> Option<Set>
     ensures { Named name.now result }
 {
     match name {
-        "Ia" => Some(SETS[0]),
-        "IIIc" => Some(SETS[1]),
-        "Vc" => Some(SETS[2]),
-        "K31" => Some(SETS[3]),
+        "Ia" => Some(IA),
+        "IIIc" => Some(IIIC),
+        "Vc" => Some(VC),
+        "K31" => Some(K31),
         _ => None,
     }
 }

@@ -22,7 +22,8 @@ pub fn pairs(n: u32) -> usize
 
 // The coefficients of a layer: o equations, each over the pairs of v variables and those of one of them with one of o.
 fn layer_codes(v: usize, o: usize) -> usize
-    requires { (v ≤ 131070) × (o ≤ 65535) }
+    requires variables { v ≤ 131070 }
+    requires equations { o ≤ 65535 }
     ensures value { result ≡ layer_codes v o }
     ensures bound { result ≤ 2 ^ 52 }
 {
@@ -59,6 +60,7 @@ impl Shape {
     }
 
     // Where the coefficients of layer l begin.
+    // The layer is a number, since every number has an answer.
     pub fn layer_start(&self, l: usize) -> usize
         ensures value { result ≡ layer_start self.now l }
         ensures bound { result ≤ 2 ^ 53 }
@@ -91,7 +93,8 @@ impl Shape {
 
     // How many bytes of the strip a place has.
     pub fn place_len(&self) -> usize
-        ensures { result ≡ place_length self.now }
+        ensures value { result ≡ place_length self.now }
+        ensures bound { result ≤ 2 ^ 33 }
     {
         let (v1, o1) = (self.v1 as usize, self.o1 as usize);
         v1 + o1 + o1 * o1

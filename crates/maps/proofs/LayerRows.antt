@@ -1,16 +1,10 @@
 -- The coefficients of a pair of variables in the equations of a layer. Assumes nothing.
-use Rattle.std.proofs.Common.{◌≡◌, ℕ, zero, suc, ◌+◌, ◌-◌, ◌*◌, ◌<◌, true, false, ltb, List, get_or, ap, ◌∙◌, zero-add, arith}
+use Rattle.std.proofs.Common.{◌≡◌, ℕ, zero, suc, ◌+◌, ◌-◌, ◌*◌, ◌<◌, true, false, ltb, List, ap, ◌∙◌, arith}
 use Rattle.std.proofs.lemmas.Bool.{cond-true, cond-false, lt-ltb, le-ltb}
-use Rattle.std.proofs.lemmas.List.FromFn.{get_or-map-range_with_len}
-use Rattle.fields.specs.Packing.{code_at, codes_from}
+use Rattle.fields.specs.Packing.{code_at}
 use Rattle.keys.specs.declared.shapes.Shape.{Shape}
 use Rattle.keys.specs.Shapes.{layer_start}
 use Rattle.maps.specs.SecretKeys.{group_size, group_of, layer_of, in_layer, term_place, in_terms, has_term, central_place, central, equation_of}
-
--- a code that was read
-pub get_or_from : (q : ℕ) (run : List ℕ) (at n k : ℕ) → k < n → get_or (codes_from q run at n) k 0 ≡ code_at q run (at + k)
-unfolding codes_from
-get_or_from q run at n k h = get_or-map-range_with_len (λ i. code_at q run (at + i)) 0 n k k 0 h (zero-add k)
 
 -- layer and number of an equation
 pub record Numbered (s : Shape) (l r f : ℕ) : Type 0 where

@@ -2,7 +2,6 @@ pub mod Values
 pub mod Cases
 pub mod Publishing
 pub mod Mixing
-pub mod PublicTests
 pub mod Composition
 pub mod MaskRows
 pub mod Groups

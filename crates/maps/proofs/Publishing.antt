@@ -1,19 +1,22 @@
 -- The places of a public key's codes, written one after the other. Assumes nothing.
-use Rattle.std.proofs.Common.{◌≡◌, ℕ, zero, suc, ◌+◌, ◌-◌, ◌*◌, ◌/◌, ◌%◌, ◌<◌, ◌≤◌, Bool, true, false, cond, eqb, ltb, leb, ◌≢◌, List, length, get_or, replicate, sym, refl, ap, ◌∙◌, subst, ap₂, inl, inr, not-suc-le-zero, mul-le-mul_right, suc-mul, arith}
-use Rattle.std.proofs.lemmas.Bool.{cases_lt, cases_eq, cases_order, cond_both, and_parts, ltb-true, leb-true}
+use Rattle.std.proofs.Common.{◌≡◌, ℕ, zero, suc, ◌+◌, ◌-◌, ◌*◌, ◌/◌, ◌%◌, ◌<◌, ◌≤◌, true, Ok, Err, Result, cond, eqb, ltb, ◌≢◌, List, length, get_or, replicate, sym, refl, ap, ◌∙◌, subst, ap₂, inl, inr, not-suc-le-zero, mul-le-mul_right, suc-mul, mul-le-mul, arith}
+use Rattle.std.proofs.lemmas.Bool.{cases_lt, cases_eq, cases_order, cond_both}
+use Rattle.std.proofs.lemmas.Bool.Decides.{nat_tests}
 use Rattle.std.proofs.lemmas.List.{get_or-replicate, get_or_past, length-replicate}
 use Rattle.algebra.specs.Rings.{Ring, RingLaws}
 use Rattle.algebra.specs.Sums.{sum, dot_of}
 use Rattle.algebra.specs.Matrices.{folded, product, transposed, pulled, public_form}
+use Rattle.algebra.proofs.Codes.{sum_code}
 use Rattle.algebra.proofs.SumLaws.{sum_ext}
+use Rattle.fields.specs.declared.packing.Misfit.{Misfit}
 use Rattle.fields.specs.Packing.{packed_length, half, code_at}
 use Rattle.fields.proofs.Runs.{wide_at, narrow_at, wide_length, narrow_length}
 use Rattle.matrices.specs.Arrays.{entry}
 use Rattle.matrices.specs.MatrixProducts.{Multiplied, TransposedMultiplied}
 use Rattle.matrices.specs.QuadraticSystems.{pairs_before, pairs, pair_at}
-use Rattle.matrices.proofs.Terms.{pairs_closed}
+use Rattle.matrices.proofs.Terms.{pairs_more, pairs_closed}
 use Rattle.keys.specs.declared.shapes.Shape.{Shape}
-use Rattle.keys.specs.Shapes.{variables, equations, public_codes, up_to, within}
+use Rattle.keys.specs.Shapes.{variables, equations, public_codes, within}
 use Rattle.maps.specs.SecretKeys.{outer_mask, inner_mask, central}
 use Rattle.maps.specs.PublicKeys.{HasPlace, CodePut, FormPut, RowMixed, Mixed, central_form, public_entry, PublicRun}
 
@@ -52,10 +55,6 @@ rows_order n i (suc k) h =
       | inr e ↦ let ne : i ≢ k = e in let l = rows_order n i k (omega arith) in omega arith
     ]
 
-row_end : (n i : ℕ) → pairs_before n (suc i) ≡ pairs_before n i + (n - i)
-unfolding pairs_before
-row_end n i = refl
-
 at_is : (n i j : ℕ) → pair_at n i j ≡ pairs_before n i + (j - i)
 unfolding pair_at
 at_is n i j = refl
@@ -67,29 +66,32 @@ pair_first n = refl
 pub pair_last : (n : ℕ) → pair_at n n n ≡ pairs n
 pair_last n = let e = at_is n n n in omega arith
 
+pub pairs_few : (n : ℕ) → n ≤ 256 → pairs n ≤ 32896
+pairs_few n h = let e = pairs_closed n in let k : n + 1 ≤ 257 = omega arith in let m = mul-le-mul h k in omega arith
+
 pub pair_below : (n i j : ℕ) → i ≤ j → j < n → pair_at n i j < pairs n
 pair_below n i j h l =
     let e = at_is n i j in
-    let r = row_end n i in
+    let r = pairs_more n i in
     let o = rows_order n i n (omega arith) in
     omega arith
 
 pub pair_next : (n i j : ℕ) → i ≤ j → pair_at n i (j + 1) ≡ pair_at n i j + 1
 pair_next n i j h = let d = at_is n i j in let e = at_is n i (j + 1) in omega arith
 
-pub pair_turn : (n i j : ℕ) → i ≤ j → j + 1 ≡ n → pair_at n (i + 1) (i + 1) ≡ pair_at n i j + 1
-pair_turn n i j h l =
-    let d = at_is n i j in
+pub pair_turn : (n i : ℕ) → pair_at n (i + 1) (i + 1) ≡ pair_at n i n
+pair_turn n i =
+    let d = at_is n i n in
     let e = at_is n (i + 1) (i + 1) in
     let s : pairs_before n (i + 1) ≡ pairs_before n (suc i) = ap (pairs_before n) (omega arith) in
-    let r = row_end n i in
+    let r = pairs_more n i in
     omega arith
 
 row_of : (n i j k l : ℕ) → i ≤ j → j < n → k ≤ l → i < k → pair_at n i j ≡ pair_at n k l → ⊥
 row_of n i j k l h b g o e =
     let d = at_is n i j in
     let c = at_is n k l in
-    let r = row_end n i in
+    let r = pairs_more n i in
     let s = rows_order n i k o in
     omega arith
 
@@ -106,28 +108,28 @@ pair_same n i j k l h b g d e =
 
 -- one more code of equation f
 module _ (q n m f : ℕ) (A : ℕ → ℕ → ℕ) (lf : f < m) where
-  pub form_none : (old : List ℕ) → FormPut q n m f 0 A old old
-  form_none old = record { done = λ i j h l k. absurd (not-suc-le-zero k); kept = λ k h. refl }
+  pub form_none : (old : List ℕ) → FormPut q n m f (pair_at n 0 0) A old old
+  form_none old = let e = pair_first n in record { done = λ i j h l k. absurd (omega arith); kept = λ k h. refl }
 
-  pub form_next : (p i j : ℕ) (old mid new : List ℕ) → p ≡ pair_at n i j → i ≤ j → j < n → FormPut q n m f p A old mid → CodePut q mid new (p * m + f) (A i j) → FormPut q n m f (p + 1) A old new
-  form_next p i j old mid new e h l F C = record { done = done; kept = λ k s. C.other k (s p (omega arith)) ∙ F.kept k (λ t b. s t (omega arith)) }
+  pub form_next : (i j p c : ℕ) (old mid new : List ℕ) → p ≡ pair_at n i j → c ≡ A i j → i ≤ j → j < n → FormPut q n m f (pair_at n i j) A old mid → CodePut q mid new (p * m + f) c → FormPut q n m f (pair_at n i (j + 1)) A old new
+  form_next i j p c old mid new e ec h l F C = record { done = done; kept = λ k s. C.other k (s p (omega (arith, next))) ∙ F.kept k (λ t b. s t (omega (arith, next))) }
     where
-      done : (i' j' : ℕ) → i' ≤ j' → j' < n → pair_at n i' j' < p + 1 → code_at q new (pair_at n i' j' * m + f) ≡ A i' j'
+      next : pair_at n i (j + 1) ≡ pair_at n i j + 1
+      next = pair_next n i j h
+
+      done : (i' j' : ℕ) → i' ≤ j' → j' < n → pair_at n i' j' < pair_at n i (j + 1) → code_at q new (pair_at n i' j' * m + f) ≡ A i' j'
       done i' j' h' l' k =
           elim (cases_eq (pair_at n i' j') p) [
             | inl s ↦
                 let w = pair_same n i' j' i j h' l' h l (s ∙ e) in
-                ap (λ (t : ℕ). code_at q new (t * m + f)) s ∙ C.here ∙ sym (ap₂ A w.0 w.1)
+                ap (λ (t : ℕ). code_at q new (t * m + f)) s ∙ C.here ∙ ec ∙ sym (ap₂ A w.0 w.1)
             | inr s ↦
                 let ne : pair_at n i' j' ≢ p = s in
-                C.other (pair_at n i' j' * m + f) (λ x. s (place_same (pair_at n i' j') p m f lf x)) ∙ F.done i' j' h' l' (omega arith)
+                C.other (pair_at n i' j' * m + f) (λ x. s (place_same (pair_at n i' j') p m f lf x)) ∙ F.done i' j' h' l' (omega (arith, next))
           ]
 
 -- one more row multiplied
 module _ (R : Ring) (m : ℕ) (A : ℕ → ℕ → ℕ) where
-  pub mixed_none : (old : List ℕ) → Mixed R m 0 A old old
-  mixed_none old = record { done = λ t e h l. absurd (not-suc-le-zero h); kept = λ k h. refl }
-
   pub mixed_next : (p : ℕ) (old mid new : List ℕ) → Mixed R m p A old mid → RowMixed R m (p * m) A mid new → Mixed R m (p + 1) A old new
   mixed_next p old mid new M W = record { done = done; kept = kept }
     where
@@ -149,57 +151,22 @@ module _ (R : Ring) (m : ℕ) (A : ℕ → ℕ → ℕ) where
                 W.kept (t * m + e) (inl (place_below t p m e b l)) ∙ M.done t e b l
           ]
 
-pub pairs_half : (n : ℕ) → n * (n + 1) / 2 ≡ pairs n
-pairs_half n = let e = pairs_closed n in omega arith
-
--- before the last pair both indices are below n
-pub live : (n i j p : ℕ) → i ≤ j → i ≤ n → j ≤ n → (i < n → j < n) → p ≡ pair_at n i j → p < n * (n + 1) / 2 → (i < n) × (j < n)
-live n i j p h hi hj b e l =
-    elim (cases_lt i n) [
-      | inl k ↦ (k, b k)
-      | inr k ↦
-          let ei : i ≡ n = omega arith in
-          let ej : j ≡ n = omega arith in
-          let s : pair_at n i j ≡ pair_at n n n = ap₂ (pair_at n) ei ej in
-          let t = pair_last n in
-          let u = pairs_half n in
-          absurd (omega arith)
-    ]
-
 pub folded_code : (R : Ring) → RingLaws R → (A : ℕ → ℕ → ℕ) (i j : ℕ) → A i j < R.q → folded R A i j < R.q
 unfolding folded
 folded_code R L A i j h =
     cond_both (ltb i j) (R.add (A i j) (A j i)) (cond (eqb i j) (A i j) 0) (λ (x : ℕ). x < R.q) (λ _. L.add_code (A i j) (A j i))
     (λ _. cond_both (eqb i j) (A i j) 0 (λ (x : ℕ). x < R.q) (λ _. h) (λ _. let k = L.q_low in omega arith))
 
--- the place of code f of pair p is there
-pub pair_there : (q n m f p : ℕ) (run : List ℕ) → length run ≡ packed_length q (pairs n * m) → p < n * (n + 1) / 2 → f < m → HasPlace q run (p * m + f)
-pair_there q n m f p run e h l =
-    let u = pairs_half n in
-    let b : p * m + f < pairs n * m = place_below p (pairs n) m f (omega arith) l in
-    let k = packed_more q (p * m + f + 1) (pairs n * m) (omega arith) in
+-- the place of code f of a pair is there
+pub pair_there : (q n m f i j : ℕ) (run : List ℕ) → length run ≡ packed_length q (pairs n * m) → i ≤ j → j < n → f < m → HasPlace q run (pair_at n i j * m + f)
+pair_there q n m f i j run e h g l =
+    let b = place_below (pair_at n i j) (pairs n) m f (pair_below n i j h g) l in
+    let k = packed_more q (pair_at n i j * m + f + 1) (pairs n * m) (omega arith) in
     omega arith
 
 -- the limits of a shape
-pub record Limits (s : Shape) : Type 0 where
-  pub v1_low : 1 ≤ s.v1
-  pub v1_high : s.v1 ≤ 128
-  pub o1_low : 1 ≤ s.o1
-  pub o1_high : s.o1 ≤ 64
-  pub o2_low : 1 ≤ s.o2
-  pub o2_high : s.o2 ≤ 64
-
-up_to_lem : (most k : ℕ) → up_to most k ≡ true → (1 ≤ k) × (k ≤ most)
-up_to_lem most k e = let p = and_parts (ltb 0 k) (leb k most) e in (ltb-true 0 k p.0, leb-true k most p.1)
-
-pub limits : (s : Shape) → within s ≡ true → Limits s
-limits s e =
-    let p = and_parts (up_to 128 s.v1) _ e in
-    let r = and_parts (up_to 64 s.o1) (up_to 64 s.o2) p.1 in
-    let a = up_to_lem 128 s.v1 p.0 in
-    let b = up_to_lem 64 s.o1 r.0 in
-    let c = up_to_lem 64 s.o2 r.1 in
-    record { v1_low = a.0; v1_high = a.1; o1_low = b.0; o1_high = b.1; o2_low = c.0; o2_high = c.1 }
+pub variables_few : (s : Shape) → within s ≡ true → variables s ≤ 256
+variables_few s h = grind (arith, nat_tests)
 
 -- the same form, entry by entry
 pub form_like : (q n m f p : ℕ) (A B : ℕ → ℕ → ℕ) (old new : List ℕ) → ((i j : ℕ) → i ≤ j → j < n → A i j ≡ B i j) → FormPut q n m f p A old new → FormPut q n m f p B old new
@@ -271,17 +238,30 @@ public_run R run s old new ih z M = record {
   over = M.kept (pairs (variables s) * equations s) (omega arith) ∙ z;
 }
 
--- a product of square matrices that fit
-pub multiplied_there : (R : Ring) (a b old new : List ℕ) (n : ℕ) (r : Bool) → length a ≡ n * n → length b ≡ n * n → length old ≡ n * n → Multiplied R a b n n n old r new → (i j : ℕ) → i < n → j < n → entry new n i j ≡ dot_of R n (entry a n i) (λ t. entry b n t j)
-multiplied_there R a b old new n true la lb lo M = M.1
-multiplied_there R a b old new n false la lb lo M = absurd (M.0 (record { left = la; right = lb; out = lo }))
+-- Q(f) from the arrays that were worked out: F(f) in a, T in t, then F(f) T in p and its product with T transposed in h
+module _ (R : Ring) (run : List ℕ) (s : Shape) (f n : ℕ) (n_is : n ≡ variables s) (inside : within s ≡ true) (a t old p h : List ℕ) (r u : Result Unit Misfit) (la : length a ≡ variables s * variables s) (lt : length t ≡ variables s * variables s) (lo : length old ≡ variables s * variables s) (lp : length p ≡ length old) (first : Multiplied R a t n n n old r p) (second : TransposedMultiplied R t p n n n a u h) where
+  first_there : (i j : ℕ) → i < variables s → j < variables s → entry p (variables s) i j ≡ dot_of R (variables s) (entry a (variables s) i) (λ k. entry t (variables s) k j)
+  first_there = there r (rw n_is at first)
+    where
+      there : (b : Result Unit Misfit) → Multiplied R a t (variables s) (variables s) (variables s) old b p → (i j : ℕ) → i < variables s → j < variables s → entry p (variables s) i j ≡ dot_of R (variables s) (entry a (variables s) i) (λ k. entry t (variables s) k j)
+      there (Ok _) M = M.1
+      there (Err _) M = absurd (M.0 (record { left = la; right = lt; out = lo }))
 
-pub transposed_there : (R : Ring) (a b old new : List ℕ) (n : ℕ) (r : Bool) → n ≤ 1024 → length a ≡ n * n → length b ≡ n * n → length old ≡ n * n → TransposedMultiplied R a b n n n old r new → (i j : ℕ) → i < n → j < n → entry new n i j ≡ dot_of R n (λ t. entry a n t i) (λ t. entry b n t j)
-transposed_there R a b old new n true few la lb lo M = M.1
-transposed_there R a b old new n false few la lb lo M = absurd (M.0 (record { left = la; right = lb; out = lo; few = few }))
+  second_there : (i j : ℕ) → i < variables s → j < variables s → entry h (variables s) i j ≡ dot_of R (variables s) (λ k. entry t (variables s) k i) (λ k. entry p (variables s) k j)
+  second_there = there u (rw n_is at second)
+    where
+      there : (b : Result Unit Misfit) → TransposedMultiplied R t p (variables s) (variables s) (variables s) a b h → (i j : ℕ) → i < variables s → j < variables s → entry h (variables s) i j ≡ dot_of R (variables s) (λ k. entry t (variables s) k i) (λ k. entry p (variables s) k j)
+      there (Ok _) M = M.1
+      there (Err _) M = absurd (M.0 (record { left = lt; right = lp ∙ lo; out = la; few = omega (arith, variables_few s inside) }))
 
--- Q(f) from the arrays that were worked out, the number of variables being n
-pub central_for : (R : Ring) (run : List ℕ) (s : Shape) (f n : ℕ) (left inner right prod : List ℕ) → n ≡ variables s → ((i j : ℕ) → i < variables s → j < variables s → entry left (variables s) i j ≡ central R.q run s f i j) → ((i j : ℕ) → i < variables s → j < variables s → entry inner (variables s) i j ≡ inner_mask R run s i j) → ((i j : ℕ) → i < n → j < n → entry right n i j ≡ dot_of R n (entry left n i) (λ t. entry inner n t j)) → ((i j : ℕ) → i < n → j < n → entry prod n i j ≡ dot_of R n (λ t. entry inner n t i) (λ t. entry right n t j)) → (i j : ℕ) → i ≤ j → j < n → folded R (entry prod n) i j ≡ central_form R run s f i j
-central_for R run s f n left inner right prod e a t g h i j o l =
-    subst (λ (k : ℕ). ((x y : ℕ) → x < k → y < k → entry right k x y ≡ dot_of R k (entry left k x) (λ u. entry inner k u y)) → ((x y : ℕ) → x < k → y < k → entry prod k x y ≡ dot_of R k (λ u. entry inner k u x) (λ u. entry right k u y)) → j < k → folded R (entry prod k) i j ≡ central_form R run s f i j) (sym e)
-    (λ g' h' l'. central_there R run s f (entry left (variables s)) (entry inner (variables s)) (entry right (variables s)) (entry prod (variables s)) a t g' h' i j o l') g h l
+  pub pulled_small : RingLaws R → (i j : ℕ) → i < n → j < n → entry h n i j < R.q
+  pulled_small L =
+      rw n_is (λ i j hi hj.
+      let e = second_there i j hi hj in
+      let k = sum_code R L (variables s) (λ k. R.mul (entry t (variables s) k i) (entry p (variables s) k j)) in
+      omega arith)
+
+  pub central_put : ((i j : ℕ) → i < variables s → j < variables s → entry a (variables s) i j ≡ central R.q run s f i j) → ((i j : ℕ) → i < variables s → j < variables s → entry t (variables s) i j ≡ inner_mask R run s i j) → (old new : List ℕ) (m : ℕ) → m ≡ equations s → FormPut R.q n m f (pairs n) (folded R (entry h n)) old new → FormPut R.q (variables s) (equations s) f (pairs (variables s)) (central_form R run s f) old new
+  central_put is_f is_t old new m m_is F =
+      form_like R.q (variables s) (equations s) f (pairs (variables s)) (folded R (entry h (variables s))) (central_form R run s f) old new
+      (central_there R run s f (entry a (variables s)) (entry t (variables s)) (entry p (variables s)) (entry h (variables s)) is_f is_t first_there second_there) (rw (n_is, m_is) at F)

@@ -1,29 +1,28 @@
 -- The values that evaluation leaves, compared with a digest. Assumes nothing.
-use Rattle.std.proofs.Common.{◌≡◌, ℕ, ◌+◌, ◌<◌, Bool, List, map, length, get_or, Decides, sym, ap, ◌∙◌, zero-add, arith}
+use Rattle.std.proofs.Common.{◌≡◌, ℕ, ◌<◌, Bool, Ok, Err, Result, List, map, length, get_or, Decides, sym, refl, ap, ◌∙◌, zero-add, arith}
 use Rattle.std.specs.List.{range_with_len}
 use Rattle.std.proofs.lemmas.List.FromFn.{length-map-range_with_len, get_or-map-range_with_len}
 use Rattle.std.proofs.lemmas.Bool.Decides.{Decides-like}
 use Rattle.algebra.specs.Rings.{Ring}
 use Rattle.algebra.specs.Forms.{form_at}
 use Rattle.algebra.proofs.SumLaws.{form_ext}
+use Rattle.fields.specs.declared.packing.Misfit.{Misfit}
 use Rattle.fields.specs.Packing.{code_at, codes_from}
-use Rattle.matrices.specs.QuadraticSystems.{coefficient, form_value}
+use Rattle.fields.proofs.Runs.{length_from, get_or_read}
+use Rattle.matrices.specs.QuadraticSystems.{coefficient, form_value, Few, Evaluated}
 use Rattle.maps.specs.Verdicts.{Satisfies}
 
-pub length_read : (q : ℕ) (run : List ℕ) (k n : ℕ) → length (codes_from q run k n) ≡ n
-unfolding codes_from
-length_read q run k n = length-map-range_with_len (λ i. code_at q run (k + i)) 0 n
-
-pub get_d_read : (q : ℕ) (run : List ℕ) (n i : ℕ) → i < n → get_or (codes_from q run 0 n) i 0 ≡ code_at q run i
-unfolding codes_from
-get_d_read q run n i h = get_or-map-range_with_len (λ j. code_at q run (0 + j)) 0 n i i 0 h (zero-add i) ∙ ap (code_at q run) (zero-add i)
+-- values and variables that are few enough
+pub evaluated : (R : Ring) (run x old new : List ℕ) (r : Result Unit Misfit) → Few (length x) (length old) → Evaluated R run x old r new → new ≡ map (form_value R run x (length old)) (range_with_len 0 (length old))
+evaluated R run x old new (Ok _) few v = v.1
+evaluated R run x old new (Err _) few v = absurd (v.0 few)
 
 module _ (R : Ring) (run digest signature : List ℕ) (n m : ℕ) where
   -- the value of form e at the codes that were read
   at_codes : (e : ℕ) → form_value R run (codes_from R.q signature 0 n) m e ≡ form_at R n (coefficient R.q run n m e) (code_at R.q signature)
   at_codes e =
-      ap (λ (k : ℕ). form_at R k (coefficient R.q run k m e) (λ i. get_or (codes_from R.q signature 0 n) i 0)) (length_read R.q signature 0 n)
-      ∙ form_ext R n (coefficient R.q run n m e) _ _ (λ i h. get_d_read R.q signature n i h)
+      ap (λ (k : ℕ). form_at R k (coefficient R.q run k m e) (λ i. get_or (codes_from R.q signature 0 n) i 0)) (length_from R.q signature 0 n)
+      ∙ form_ext R n (coefficient R.q run n m e) _ _ (λ i h. get_or_read R.q signature _ n i refl h)
 
   value_at : (x values : List ℕ) → x ≡ codes_from R.q signature 0 n → values ≡ map (form_value R run x m) (range_with_len 0 m) → (e : ℕ) → e < m → get_or values e 0 ≡ form_at R n (coefficient R.q run n m e) (code_at R.q signature)
   value_at x values p q e h =

@@ -1,5 +1,5 @@
 -- Secret keys: after the head one packed run, the blocks S', T1, T4, T3 of the masks, each column by column, then the coefficients of the layers.
-use Rattle.std.specs.Prelude.{◌≡◌, ℕ, zero, suc, ◌+◌, ◌-◌, ◌*◌, ◌<◌, Bool, true, false, cond, ◌&&◌, List, length, ◌==◌, ◌≢◌, nat_le, nat_lt, slice_index}
+use Rattle.std.specs.Prelude.{◌≡◌, ℕ, zero, suc, ◌+◌, ◌-◌, ◌*◌, ◌<◌, Bool, cond, ◌&&◌, List, Ok, Err, Result, length, ◌==◌, ◌≢◌, nat_le, nat_lt, slice_index}
 use Rattle.algebra.specs.Rings.{Ring}
 use Rattle.algebra.specs.Matrices.{applied}
 use Rattle.algebra.specs.Masks.{mask_s, mask_t, negated, second_of, Inverse}
@@ -7,6 +7,11 @@ use Rattle.fields.specs.Packing.{code_at}
 use Rattle.matrices.specs.QuadraticSystems.{pairs, pair_at}
 use Rattle.keys.specs.declared.shapes.Shape.{Shape}
 use Rattle.keys.specs.Shapes.{variables, equations, layer_start}
+use Rattle.fields.specs.declared.packing.Misfit.{Misfit}
+use Rattle.maps.specs.declared.blocks.Block.{Block}
+use Rattle.maps.specs.declared.blocks.Block.TheVariants.{S, T1, T4, T3}
+use Rattle.maps.specs.declared.masks.Part.{Part}
+use Rattle.maps.specs.declared.masks.Part.TheVariants.{Unit as Fixed, In, Corner}
 use Rattle.maps.specs.declared.mask_backs.Mask.{Mask}
 use Rattle.maps.specs.declared.mask_backs.Mask.TheVariants.{Outer, Inner}
 
@@ -14,27 +19,39 @@ use Rattle.maps.specs.declared.mask_backs.Mask.TheVariants.{Outer, Inner}
 unfoldable pub block : ℕ → List ℕ → ℕ → ℕ → ℕ → ℕ → ℕ
 block q run start rows i j = code_at q run (start + j * rows + i)
 
--- where T1, T4 and T3 begin; S' begins the run
-abbrev pub start_t1 : Shape → ℕ
-start_t1 s = s.o1 * s.o2
+-- where a block begins, and how many rows and columns it has
+abbrev pub block_start : Shape → Block → ℕ
+block_start s S = 0
+block_start s T1 = s.o1 * s.o2
+block_start s T4 = s.o1 * s.o2 + s.v1 * s.o1
+block_start s T3 = s.o1 * s.o2 + s.v1 * s.o1 + s.v1 * s.o2
 
-abbrev pub start_t4 : Shape → ℕ
-start_t4 s = start_t1 s + s.v1 * s.o1
+abbrev pub block_rows : Shape → Block → ℕ
+block_rows s S = s.o1
+block_rows s T1 = s.v1
+block_rows s T4 = s.v1
+block_rows s T3 = s.o1
 
-abbrev pub start_t3 : Shape → ℕ
-start_t3 s = start_t4 s + s.v1 * s.o2
+abbrev pub block_columns : Shape → Block → ℕ
+block_columns s S = s.o2
+block_columns s T1 = s.o1
+block_columns s T4 = s.o2
+block_columns s T3 = s.o2
+
+abbrev pub block_of : ℕ → List ℕ → Shape → Block → ℕ → ℕ → ℕ
+block_of q run s b = block q run (block_start s b) (block_rows s b)
 
 abbrev pub block_s : ℕ → List ℕ → Shape → ℕ → ℕ → ℕ
-block_s q run s = block q run 0 s.o1
+block_s q run s = block_of q run s S
 
 abbrev pub block_t1 : ℕ → List ℕ → Shape → ℕ → ℕ → ℕ
-block_t1 q run s = block q run (start_t1 s) s.v1
+block_t1 q run s = block_of q run s T1
 
 abbrev pub block_t4 : ℕ → List ℕ → Shape → ℕ → ℕ → ℕ
-block_t4 q run s = block q run (start_t4 s) s.v1
+block_t4 q run s = block_of q run s T4
 
 abbrev pub block_t3 : ℕ → List ℕ → Shape → ℕ → ℕ → ℕ
-block_t3 q run s = block q run (start_t3 s) s.o1
+block_t3 q run s = block_of q run s T3
 
 -- S, m by m, and T, n by n, with T2 = T1 T3 - T4
 unfoldable pub outer_mask : Ring → List ℕ → Shape → ℕ → ℕ → ℕ
@@ -50,7 +67,39 @@ outer_inverse R run s = mask_s s.o1 (negated R (block_s R.q run s))
 unfoldable pub inner_inverse : Ring → List ℕ → Shape → ℕ → ℕ → ℕ
 inner_inverse R run s = mask_t s.v1 s.o1 (negated R (block_t1 R.q run s)) (block_t4 R.q run s) (negated R (block_t3 R.q run s))
 
--- the inverse of a mask, and its side
+-- an entry for each block, row and column
+abbrev pub Blocks : Type 0
+Blocks = Block → ℕ → ℕ → ℕ
+
+-- a mask with such blocks and such a corner
+abbrev pub outer_with : Shape → Blocks → (ℕ → ℕ → ℕ) → ℕ → ℕ → ℕ
+outer_with s B C = mask_s s.o1 (B S)
+
+abbrev pub inner_with : Shape → Blocks → (ℕ → ℕ → ℕ) → ℕ → ℕ → ℕ
+inner_with s B C = mask_t s.v1 s.o1 (B T1) C (B T3)
+
+abbrev pub mask_with : Mask → Shape → Blocks → (ℕ → ℕ → ℕ) → ℕ → ℕ → ℕ
+mask_with Outer = outer_with
+mask_with Inner = inner_with
+
+-- what a part of it is
+abbrev pub placed : Blocks → (ℕ → ℕ → ℕ) → Part → ℕ
+placed B C (Fixed c) = c
+placed B C (In b i j) = B b i j
+placed B C (Corner i j) = C i j
+
+-- a part within its block or the corner
+abbrev pub PartInside : Shape → Part → Type 0
+PartInside s (Fixed c) = Unit {0}
+PartInside s (In b i j) = (i < block_rows s b) × (j < block_columns s b)
+PartInside s (Corner i j) = (i < s.v1) × (j < s.o2)
+
+-- a mask
+abbrev pub mask_of : Mask → Ring → List ℕ → Shape → ℕ → ℕ → ℕ
+mask_of Outer = outer_mask
+mask_of Inner = inner_mask
+
+-- its inverse, and its side
 abbrev pub mask_inverse : Mask → Ring → List ℕ → Shape → ℕ → ℕ → ℕ
 mask_inverse Outer = outer_inverse
 mask_inverse Inner = inner_inverse
@@ -59,10 +108,10 @@ abbrev pub mask_side : Mask → Shape → ℕ
 mask_side Outer = equations
 mask_side Inner = variables
 
--- What bringing a vector back answers, and leaves in the result: false exactly where a vector has not the mask's side.
-abbrev pub BroughtBack : Ring → List ℕ → Shape → Mask → List ℕ → List ℕ → Bool → List ℕ → Type 0
-BroughtBack R run s k x old true new = ((length x ≡ mask_side k s) × (length old ≡ mask_side k s)) × ((i : ℕ) → i < mask_side k s → slice_index new i ≡ applied R (mask_side k s) (mask_inverse k R run s) (λ j. slice_index x j) i)
-BroughtBack R run s k x old false new = (length x ≡ mask_side k s → length old ≢ mask_side k s) × (new ≡ old)
+-- What bringing a vector back answers, and leaves in the result: an error exactly where a vector has not the mask's side.
+abbrev pub BroughtBack : Ring → List ℕ → Shape → Mask → List ℕ → List ℕ → Result Unit Misfit → List ℕ → Type 0
+BroughtBack R run s k x old (Ok _) new = ((length x ≡ mask_side k s) × (length old ≡ mask_side k s)) × ((i : ℕ) → i < mask_side k s → slice_index new i ≡ applied R (mask_side k s) (mask_inverse k R run s) (λ j. slice_index x j) i)
+BroughtBack R run s k x old (Err _) new = (length x ≡ mask_side k s → length old ≢ mask_side k s) × (new ≡ old)
 
 -- The two masks of every secret key are undone by these, on either side.
 pub record MasksUndone (R : Ring) (run : List ℕ) (s : Shape) : Type 0 where
@@ -130,13 +179,13 @@ central q run s f i j = cond (has_term s f i j) (code_at q run (central_place s 
 abbrev pub equation_of : Shape → ℕ → ℕ → ℕ
 equation_of s l r = cond (nat_le l 1) r (s.o1 + r)
 
--- The codes of x(i) x(j) in the equations of layer l, one for each; false exactly where there is no such layer or variable or the row has another length.
+-- The codes of x(i) x(j) in the equations of layer l, one for each; an error exactly where there is no such layer or variable or the row has another length.
 pub record RowFits (s : Shape) (l j len : ℕ) : Type 0 where
   pub low : 0 < l
   pub high : l < 3
   pub inside : j < variables s
   pub room : len ≡ group_size s l
 
-abbrev pub LayerRow : ℕ → List ℕ → Shape → ℕ → ℕ → ℕ → List ℕ → Bool → List ℕ → Type 0
-LayerRow q run s l i j old true new = RowFits s l j (length old) × ((r : ℕ) → r < group_size s l → slice_index new r ≡ central q run s (equation_of s l r) i j)
-LayerRow q run s l i j old false new = (RowFits s l j (length old) → ⊥) × (new ≡ old)
+abbrev pub LayerRow : ℕ → List ℕ → Shape → ℕ → ℕ → ℕ → List ℕ → Result Unit Misfit → List ℕ → Type 0
+LayerRow q run s l i j old (Ok _) new = RowFits s l j (length old) × ((r : ℕ) → r < group_size s l → slice_index new r ≡ central q run s (equation_of s l r) i j)
+LayerRow q run s l i j old (Err _) new = (RowFits s l j (length old) → ⊥) × (new ≡ old)

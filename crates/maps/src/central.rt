@@ -1,23 +1,24 @@
-ghost use Rattle.std.specs.Prelude.{◌≡◌, ℕ, ◌+◌, ◌-◌, ◌*◌, ◌^◌, ◌<◌, ◌≤◌, true, length, slice_index};
+ghost use Rattle.std.specs.Prelude.{◌≡◌, ℕ, ◌+◌, ◌-◌, ◌*◌, ◌^◌, ◌<◌, ◌≤◌, true, length};
 ghost use Rattle.matrices.specs.Arrays.{entry};
 ghost use Rattle.matrices.specs.QuadraticSystems.{pairs as pairs_of, pair_at};
 ghost use Rattle.keys.specs.Shapes.{variables, equations};
 ghost use Rattle.maps.specs.SecretKeys.{group_size, group_start, group_end, group_of, layer_of, in_layer, terms_before, term_place, in_terms, has_term, central_place, central};
 
+use super::secrets::SecretRun;
+use super::squares::fill_square;
 use fields::{Ring, read_code};
 use keys::{Shape, pairs};
 
 // How many variables group k has: group 0 is V1, group l the oil variables of layer l.
+// Groups and layers are numbers, since they are compared and counted with, and every number may be asked for.
 pub fn group_size(shape: &Shape, k: usize) -> usize
     ensures value { result ≡ group_size shape.now k }
     ensures bound { result ≤ 65535 }
 {
-    if k == 0 {
-        shape.v1 as usize
-    } else if k == 1 {
-        shape.o1 as usize
-    } else {
-        shape.o2 as usize
+    match k {
+        0 => shape.v1 as usize,
+        1 => shape.o1 as usize,
+        _ => shape.o2 as usize,
     }
 }
 
@@ -26,17 +27,15 @@ pub fn group_start(shape: &Shape, k: usize) -> usize
     ensures value { result ≡ group_start shape.now k }
     ensures bound { result ≤ 131070 }
 {
-    if k == 0 {
-        0
-    } else if k == 1 {
-        shape.v1 as usize
-    } else {
-        shape.v1 as usize + shape.o1 as usize
+    match k {
+        0 => 0,
+        1 => shape.v1 as usize,
+        _ => shape.v1 as usize + shape.o1 as usize,
     }
 }
 
 // How many variables the groups up to group k have.
-pub(crate) fn group_end(shape: &Shape, k: usize) -> usize
+fn group_end(shape: &Shape, k: usize) -> usize
     ensures value { result ≡ group_end shape.now k }
     ensures bound { result ≤ 196605 }
 {
@@ -44,7 +43,7 @@ pub(crate) fn group_end(shape: &Shape, k: usize) -> usize
 }
 
 // The group of variable i.
-pub(crate) fn group_of(shape: &Shape, i: usize) -> usize
+fn group_of(shape: &Shape, i: usize) -> usize
     ensures { result ≡ group_of shape.now i }
 {
     if i < shape.v1 as usize {
@@ -57,14 +56,14 @@ pub(crate) fn group_of(shape: &Shape, i: usize) -> usize
 }
 
 // The layer of equation f.
-pub(crate) fn layer_of(shape: &Shape, f: usize) -> usize
+fn layer_of(shape: &Shape, f: usize) -> usize
     ensures { result ≡ layer_of shape.now f }
 {
     if f < shape.o1 as usize { 1 } else { 2 }
 }
 
 // The number of equation f within its layer.
-pub(crate) fn in_layer(shape: &Shape, f: usize) -> usize
+fn in_layer(shape: &Shape, f: usize) -> usize
     ensures { result ≡ in_layer shape.now f }
 {
     if f < shape.o1 as usize {
@@ -75,8 +74,11 @@ pub(crate) fn in_layer(shape: &Shape, f: usize) -> usize
 }
 
 // The place of the pair i <= j among those of n variables.
+#[tactic(auto, using(crate::proofs::Groups::rows_closed), unfolding(matrices::specs::QuadraticSystems::pair_at))]
 pub(crate) fn pair_place(n: usize, i: usize, j: usize) -> usize
-    requires { (i ≤ j) × ((j < n) × (n ≤ 65535)) }
+    requires order { i ≤ j }
+    requires inside { j < n }
+    requires few { n ≤ 65535 }
     ensures value { result ≡ pair_at n i j }
     ensures bound { result ≤ 2 ^ 33 }
 {
@@ -94,23 +96,26 @@ fn terms_from(shape: &Shape, l: usize, a: usize) -> usize
 }
 
 // How many terms of layer l have their first variable in a group before a.
-pub(crate) fn terms_before(shape: &Shape, l: usize, a: usize) -> usize
-    requires { (a ≤ l) × (a ≤ 2) }
+#[tactic(auto, unfolding(crate::specs::SecretKeys::terms_before))]
+fn terms_before(shape: &Shape, l: usize, a: usize) -> usize
+    requires order { a ≤ l }
+    requires groups { a ≤ 2 }
     ensures value { result ≡ terms_before shape.now l a }
     ensures bound { result ≤ 2 ^ 37 }
 {
-    if a == 0 {
-        0
-    } else if a == 1 {
-        terms_from(shape, l, 0)
-    } else {
-        terms_from(shape, l, 0) + terms_from(shape, l, 1)
+    match a {
+        0 => 0,
+        1 => terms_from(shape, l, 0),
+        _ => terms_from(shape, l, 0) + terms_from(shape, l, 1),
     }
 }
 
 // The place of a term among those with their first variable in group a, where its second is in a later group b; each variable by its number in its group.
 fn across_place(shape: &Shape, a: usize, b: usize, i: usize, j: usize) -> usize
-    requires { (a < b) × ((b ≤ 2) × ((i < group_size shape.now a) × (j < group_size shape.now b))) }
+    requires order { a < b }
+    requires groups { b ≤ 2 }
+    requires first { i < group_size shape.now a }
+    requires second { j < group_size shape.now b }
     ensures value { result ≡ pairs_of (group_size shape.now a) + group_size shape.now a * (group_start shape.now b - group_end shape.now a) + i * group_size shape.now b + j }
     ensures bound { result ≤ 2 ^ 37 }
 {
@@ -120,8 +125,11 @@ fn across_place(shape: &Shape, a: usize, b: usize, i: usize, j: usize) -> usize
 }
 
 // The place of the term x(i) x(j) among those of layer l.
+#[tactic(auto, unfolding(crate::specs::SecretKeys::term_place))]
 pub(crate) fn term_place(shape: &Shape, l: usize, i: usize, j: usize) -> usize
-    requires { (i ≤ j) × ((j < variables shape.now) × (group_of shape.now i ≤ l)) }
+    requires order { i ≤ j }
+    requires inside { j < variables shape.now }
+    requires layer { group_of shape.now i ≤ l }
     ensures value { result ≡ term_place shape.now l (group_of shape.now i) (group_of shape.now j) i j }
     ensures bound { result ≤ 2 ^ 38 }
 {
@@ -143,15 +151,18 @@ pub(crate) fn in_terms(shape: &Shape, l: usize, i: usize, j: usize) -> bool
 }
 
 // Whether the central equation f has a term x(i) x(j).
-pub(crate) fn has_term(shape: &Shape, f: usize, i: usize, j: usize) -> bool
+fn has_term(shape: &Shape, f: usize, i: usize, j: usize) -> bool
     ensures { result ≡ has_term shape.now f i j }
 {
     in_terms(shape, layer_of(shape, f), i, j)
 }
 
 // Where the coefficient of x(i) x(j) in the central equation f stands in the run.
-pub(crate) fn central_place(shape: &Shape, f: usize, i: usize, j: usize) -> usize
-    requires { (has_term shape.now f i j ≡ true) × ((f < equations shape.now) × (j < variables shape.now)) }
+#[tactic(auto, unfolding(crate::specs::SecretKeys::central_place))]
+fn central_place(shape: &Shape, f: usize, i: usize, j: usize) -> usize
+    requires term { has_term shape.now f i j ≡ true }
+    requires equation { f < equations shape.now }
+    requires variable { j < variables shape.now }
     ensures { result ≡ central_place shape.now f i j }
 {
     let l = layer_of(shape, f);
@@ -159,48 +170,34 @@ pub(crate) fn central_place(shape: &Shape, f: usize, i: usize, j: usize) -> usiz
     shape.layer_start(l) + term_place(shape, l, i, j) * equations + in_layer(shape, f)
 }
 
-// The coefficient of x(i) x(j) in the central equation f.
-pub(crate) fn central_code<R: Ring>(
-    ring: &R,
-    run: &[u8],
-    shape: &Shape,
-    f: usize,
-    i: usize,
-    j: usize,
-) -> u8
-    requires { (f < equations shape.now) × (j < variables shape.now) }
-    ensures { result ≡ central (R.Ring.ring ring.now).q run.now shape.now f i j }
-{
-    if has_term(shape, f, i, j) {
-        read_code(ring, run, central_place(shape, f, i, j))
-    } else {
-        0
+impl<R: Ring> SecretRun<'_, R> {
+    // The coefficient of x(i) x(j) in the central equation f.
+    #[tactic(auto, unfolding(crate::specs::SecretKeys::central))]
+    fn central_code(&self, f: usize, i: usize, j: usize) -> u8
+        requires equation { f < equations self.now.shape }
+        requires variable { j < variables self.now.shape }
+        ensures { result ≡ central (R.Ring.ring self.now.ring.now).q self.now.run.now self.now.shape f i j }
+    {
+        if has_term(&self.shape, f, i, j) {
+            read_code(self.ring, self.run, central_place(&self.shape, f, i, j))
+        } else {
+            0
+        }
     }
-}
 
-// Writes row i of the coefficient matrix of the central equation f.
-fn fill_row<R: Ring>(ring: &R, run: &[u8], shape: &Shape, f: usize, i: usize, row: &mut [u8])
-    requires { (f < equations shape.now) × (length row.old ≡ variables shape.now) }
-    ensures { (j : ℕ) → j < length row.old → slice_index row.new j ≡ central (R.Ring.ring ring.now).q run.now shape.now f i j }
-{
-    for j in 0..row.len() {
-        row[j] = central_code(ring, run, shape, f, i, j);
-    }
-}
-
-// Writes the coefficient matrix of the central equation f, row by row; 0 where it has no term.
-pub(crate) fn fill_central<R: Ring>(
-    ring: &R,
-    run: &[u8],
-    shape: &Shape,
-    f: usize,
-    matrix: &mut [u8],
-)
-    requires { (f < equations shape.now) × (length matrix.old ≡ variables shape.now * variables shape.now) }
-    ensures { (i j : ℕ) → i < variables shape.now → j < variables shape.now → entry matrix.new (variables shape.now) i j ≡ central (R.Ring.ring ring.now).q run.now shape.now f i j }
-{
-    let n = shape.variables();
-    for i in 0..n {
-        fill_row(ring, run, shape, f, i, &mut matrix[i * n..i * n + n]);
+    // Writes the coefficient matrix of the central equation f, row by row; 0 where it has no term.
+    pub(crate) fn fill_central(&self, f: usize, matrix: &mut [u8])
+        requires equation { f < equations self.now.shape }
+        requires length { length matrix.old ≡ variables self.now.shape * variables self.now.shape }
+        ensures { (i j : ℕ) → i < variables self.now.shape → j < variables self.now.shape → entry matrix.new (variables self.now.shape) i j ≡ central (R.Ring.ring self.now.ring.now).q self.now.run.now self.now.shape f i j }
+    {
+        fill_square(
+            matrix,
+            self.shape.variables(),
+            |i, j|
+                requires { (f < equations self.now.shape) × (j < variables self.now.shape) }
+                ensures { result ≡ central (R.Ring.ring self.entry.now.ring.now).q self.entry.now.run.now self.entry.now.shape f i j }
+            { self.central_code(f, i, j) },
+        );
     }
 }

@@ -1,11 +1,12 @@
-ghost use Rattle.std.specs.Prelude.{◌≡◌, ℕ, ◌<◌, ◌≤◌, length, slice_index};
+ghost use Rattle.std.specs.Prelude.{◌≡◌, ℕ, ◌<◌, length, slice_index};
 ghost use Rattle.algebra.specs.Matrices.{applied};
-ghost use Rattle.keys.specs.Shapes.{variables, equations};
-ghost use Rattle.maps.specs.SecretKeys.{outer_inverse, inner_inverse, mask_inverse, mask_side, BroughtBack, EveryMaskUndone};
+ghost use Rattle.maps.specs.SecretKeys.{mask_inverse, mask_side, BroughtBack, EveryMaskUndone};
 
-use super::masks::{block_code, first_code, fourth_code, third_code};
-use fields::Ring;
-use keys::Shape;
+use super::blocks::Block;
+use super::masks::Part;
+use super::secrets::SecretRun;
+use super::squares::fill_row;
+use fields::{Misfit, Ring};
 
 // The two masks of a secret key: S, of the equations, and T, of the variables.
 #[derive(Clone, Copy)]
@@ -14,105 +15,58 @@ pub enum Mask {
     Inner,
 }
 
-// The entry e, f of the inverse of S.
-fn outer_back_code<R: Ring>(ring: &R, run: &[u8], shape: &Shape, e: usize, f: usize) -> u8
-    requires { (e < equations shape.now) × ((f < equations shape.now) × (equations shape.now ≤ 196605)) }
-    ensures { result ≡ outer_inverse (R.Ring.ring ring.now) run.now shape.now e f }
-{
-    let o1 = shape.o1 as usize;
-    if e == f {
-        1
-    } else if e >= o1 || f < o1 {
-        0
-    } else {
-        ring.negative(block_code(ring, run, 0, o1, e, f - o1))
-    }
-}
-
-// The entry i, j of the inverse of T.
-fn inner_back_code<R: Ring>(ring: &R, run: &[u8], shape: &Shape, i: usize, j: usize) -> u8
-    requires { (i < variables shape.now) × (j < variables shape.now) }
-    ensures { result ≡ inner_inverse (R.Ring.ring ring.now) run.now shape.now i j }
-{
-    let v1 = shape.v1 as usize;
-    let v2 = v1 + shape.o1 as usize;
-    if i == j {
-        1
-    } else if i < v1 {
-        if j < v1 {
-            0
-        } else if j < v2 {
-            ring.negative(first_code(ring, run, shape, i, j - v1))
-        } else {
-            fourth_code(ring, run, shape, i, j - v2)
+impl<R: Ring> SecretRun<'_, R> {
+    // The entry i, j of the inverse of a mask.
+    #[tactic(auto, using(crate::proofs::MaskRows::inverse_is, crate::proofs::MaskRows::back_block))]
+    fn back_code(&self, mask: Mask, i: usize, j: usize) -> u8
+        requires row { i < mask_side mask self.now.shape }
+        requires column { j < mask_side mask self.now.shape }
+        ensures { result ≡ mask_inverse mask (R.Ring.ring self.now.ring.now) self.now.run.now self.now.shape i j }
+    {
+        match mask.part(&self.shape, i, j) {
+            Part::Unit(code) => code,
+            Part::In(block, i, j) => self.ring.negative(self.block_code(block, i, j)),
+            Part::Corner(i, j) => self.block_code(Block::T4, i, j),
         }
-    } else if i >= v2 || j < v2 {
-        0
-    } else {
-        ring.negative(third_code(ring, run, shape, i - v1, j - v2))
     }
-}
 
-// The side of a mask.
-fn side(shape: &Shape, mask: Mask) -> usize
-    ensures value { result ≡ mask_side mask shape.now }
-    ensures bound { result ≤ 196605 }
-{
-    match mask {
-        Mask::Outer => shape.equations(),
-        Mask::Inner => shape.variables(),
+    // Place i of the inverse of a mask times x.
+    #[tactic(auto, unfolding(algebra::specs::Matrices::applied))]
+    // A loop: as a `fold` what it returns did not prove.
+    fn brought(&self, mask: Mask, x: &[u8], i: usize) -> u8
+        requires length { length x.now ≡ mask_side mask self.now.shape }
+        requires row { i < mask_side mask self.now.shape }
+        ensures { result ≡ applied (R.Ring.ring self.now.ring.now) (mask_side mask self.now.shape) (mask_inverse mask (R.Ring.ring self.now.ring.now) self.now.run.now self.now.shape) (λ j. slice_index x.now j) i }
+    {
+        let mut s = 0;
+        for (j, &code) in x.iter().enumerate() {
+            let factor = self.back_code(mask, i, j);
+            s = self.ring.sum(s, self.ring.product(factor, code));
+        }
+        s
     }
-}
 
-// The entry i, j of the inverse of a mask.
-fn back_code<R: Ring>(ring: &R, run: &[u8], shape: &Shape, mask: Mask, i: usize, j: usize) -> u8
-    requires { (i < mask_side mask shape.now) × ((j < mask_side mask shape.now) × (mask_side mask shape.now ≤ 196605)) }
-    ensures { result ≡ mask_inverse mask (R.Ring.ring ring.now) run.now shape.now i j }
-{
-    match mask {
-        Mask::Outer => outer_back_code(ring, run, shape, i, j),
-        Mask::Inner => inner_back_code(ring, run, shape, i, j),
+    // Brings x, which a mask of the secret key was multiplied with, back: the inverse of the mask times x.
+    // A misfit where one of the two has not the mask's side.
+    pub fn bring_back(&self, mask: Mask, x: &[u8], image: &mut [u8]) -> Result<(), Misfit>
+        ensures { BroughtBack (R.Ring.ring self.now.ring.now) self.now.run.now self.now.shape mask x.now image.old result image.new }
+    {
+        let n = mask.side(&self.shape);
+        if x.len() != n || image.len() != n {
+            return Err(Misfit);
+        }
+        fill_row(
+            image,
+            |i|
+                requires { (length x.now ≡ mask_side mask self.now.shape) × (i < mask_side mask self.now.shape) }
+                ensures { result ≡ applied (R.Ring.ring self.entry.now.ring.now) (mask_side mask self.entry.now.shape) (mask_inverse mask (R.Ring.ring self.entry.now.ring.now) self.entry.now.run.now self.entry.now.shape) (λ j. slice_index x.entry.now j) i }
+            { self.brought(mask, x, i) },
+        );
+        Ok(())
     }
-}
-
-// Place i of the inverse of a mask times x.
-fn brought<R: Ring>(ring: &R, run: &[u8], shape: &Shape, mask: Mask, x: &[u8], i: usize) -> u8
-    requires { (length x.now ≡ mask_side mask shape.now) × ((mask_side mask shape.now ≤ 196605) × (i < mask_side mask shape.now)) }
-    ensures { result ≡ applied (R.Ring.ring ring.now) (mask_side mask shape.now) (mask_inverse mask (R.Ring.ring ring.now) run.now shape.now) (λ j. slice_index x.now j) i }
-{
-    let mut s = 0;
-    for j in 0..x.len() {
-        let factor = back_code(ring, run, shape, mask, i, j);
-        s = ring.sum(s, ring.product(factor, x[j]));
-    }
-    s
-}
-
-// Brings x, which a mask of the secret key was multiplied with, back: the inverse of the mask times x.
-// False, and `image` as it was, where one of the two has not the mask's side.
-pub fn bring_back<R: Ring>(
-    ring: &R,
-    run: &[u8],
-    shape: &Shape,
-    mask: Mask,
-    x: &[u8],
-    image: &mut [u8],
-) -> bool
-    ensures { BroughtBack (R.Ring.ring ring.now) run.now shape.now mask x.now image.old result image.new }
-{
-    let n = side(shape, mask);
-    if x.len() != n || image.len() != n {
-        return false;
-    }
-    for i in 0..n {
-        image[i] = brought(ring, run, shape, mask, x, i);
-    }
-    true
 }
 
 // Bringing back undoes each mask, and each mask undoes bringing back.
-pub fn masks_undone<R: Ring>(ring: &R) -> bool
+pub fn masks_undone<R: Ring>(ring: &R)
     ensures { EveryMaskUndone (R.Ring.ring ring.now) }
-{
-    true
-}
+{}

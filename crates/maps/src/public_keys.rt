@@ -1,65 +1,57 @@
-ghost use Rattle.std.specs.Prelude.{◌≡◌, ℕ, ◌+◌, ◌*◌, ◌<◌, ◌≤◌, true, map, length};
-ghost use Rattle.keys.specs.Shapes.{variables, public_codes, key_workspace, within};
-ghost use Rattle.keys.specs.Refusals.{Answers, first, length_test};
-ghost use Rattle.keys.specs.Heads.{head_of, key_length};
-ghost use Rattle.maps.specs.PublicKeys.{Published, early_tests, public_buffers, PublicMade};
+ghost use Rattle.std.specs.Prelude.{◌≡◌, ℕ, ◌+◌, ◌*◌, ◌<◌, ◌≤◌, map, length, take, drop};
+ghost use Rattle.fields.specs.Packing.{packed_length};
+ghost use Rattle.keys.specs.Shapes.{public_codes, key_workspace};
+ghost use Rattle.keys.specs.Refusals.{Answers, first};
+ghost use Rattle.keys.specs.Seen.{seen};
+ghost use Rattle.maps.specs.PublicKeys.{PublicRun, early_tests, public_buffers, PublicMade};
 
-use super::public_runs::write_run;
+use super::secrets::{SecretKey, SecretRun};
 use fields::Ring;
-use keys::{
-    Buffer, Head, Refusal, Wipe, foreign_code, read_head, refuse_first, short_workspace,
-    wrong_length,
-};
+use keys::{Buffer, Lent, ReadKey, Refusal, Wipe, refuse_codes, refuse_lengths};
 
-// The lengths of the buffers of `public_key`, once the key's head is read.
-fn judge_lengths<R: Ring>(
+// The buffers of `public_key`, in their order.
+fn lent<'a, R: Ring>(ring: &R, key: &ReadKey<'a>, public: &[u8], workspace: &[u8]) -> [Lent<'a>; 3]
+    ensures { map (seen (R.Ring.ring ring.now).q) result ≡ public_buffers (R.Ring.ring ring.now).q key.now.bytes.now public.now workspace.now }
+{
+    let public_len = key.head.public_len(ring.size());
+    [
+        key.secret_lent(ring),
+        Lent::space(Buffer::PublicKey, public, public_len),
+        Lent::workspace(workspace, key.shape().key_workspace()),
+    ]
+}
+
+// The tests of `public_key` that leave the workspace untouched, in order; the key, read, and the buffers where they pass.
+fn judge<'a, R: Ring>(
     ring: &R,
-    head: &Head,
-    key: &[u8],
+    key: &'a [u8],
     public: &[u8],
     workspace: &[u8],
-) -> Result<(), Refusal>
-    requires { head.now ≡ head_of key.now }
-    ensures { Answers (first (map length_test (public_buffers (R.Ring.ring ring.now).q key.now public.now workspace.now))) result (λ _. Unit {0}) }
+) -> Result<(ReadKey<'a>, [Lent<'a>; 3]), Refusal>
+    ensures { Answers (first (early_tests (R.Ring.ring ring.now).q key.now public.now workspace.now)) result (λ r. (r.0.bytes.now ≡ key.now) × (map (seen (R.Ring.ring ring.now).q) r.1 ≡ public_buffers (R.Ring.ring ring.now).q key.now public.now workspace.now)) }
 {
-    let q = ring.size();
-    refuse_first(&[
-        wrong_length(Buffer::Key, key, head.secret_len(q)),
-        wrong_length(Buffer::PublicKey, public, head.public_len(q)),
-        short_workspace(workspace, head.shape.key_workspace()),
-    ])
+    let key = ReadKey::read(ring, key)?;
+    let buffers = lent(ring, &key, public, workspace);
+    refuse_lengths(&buffers)?;
+    Ok((key, buffers))
 }
 
-// The tests of `public_key` that leave the workspace untouched, in order.
-fn judge<R: Ring>(ring: &R, key: &[u8], public: &[u8], workspace: &[u8]) -> Result<Head, Refusal>
-    ensures { Answers (first (early_tests (R.Ring.ring ring.now).q key.now public.now workspace.now)) result (λ h. (h ≡ head_of key.now) × (4 ≤ length key.now)) }
-{
-    let head = read_head(ring, key)?;
-    judge_lengths(ring, &head, key, public, workspace)?;
-    Ok(head)
-}
-
-// Writes the head and the run of a public key; what the workspace holds afterwards is open.
-fn publish<R: Ring>(ring: &R, head: &Head, key: &[u8], work: &mut [u8], public: &mut [u8])
-    requires heads { (head.now ≡ head_of key.now) × ((within head.now.shape ≡ true) × (4 ≤ length key.now)) }
-    requires lengths { (length public.old ≡ key_length 4 (R.Ring.ring ring.now).q (public_codes head.now.shape)) × (key_workspace head.now.shape ≤ length work.old) }
-    ensures { Published (R.Ring.ring ring.now) key.now public.new }
-{
-    let h = head.len as usize;
-    let n = head.shape.variables();
-    public[0..h].copy_from_slice(&key[0..h]);
-    let (inner, rest) = work.split_at_mut(n * n);
-    let (left, rest) = rest.split_at_mut(n * n);
-    let right = &mut rest[0..n * n];
-    write_run(
-        ring,
-        &key[h..],
-        &head.shape,
-        inner,
-        left,
-        right,
-        &mut public[h..],
-    );
+impl<R: Ring> SecretKey<'_, R> {
+    // Writes a head and the run of the public key after it; what the workspace holds afterwards is open.
+    #[tactic(auto, using(std::proofs::lemmas::List::take_at, std::proofs::lemmas::List::drop_at))]
+    fn publish(&self, head: &[u8], work: &mut [u8], public: &mut [u8])
+        requires public { length public.old ≡ length head.now + packed_length (R.Ring.ring self.now.secret.ring.now).q (public_codes self.now.secret.shape) }
+        requires work { key_workspace self.now.secret.shape ≤ length work.old }
+        ensures head { take (length head.now) public.new ≡ head.now }
+        ensures run { PublicRun (R.Ring.ring self.now.secret.ring.now) self.now.secret.run.now self.now.secret.shape (drop (length head.now) public.new) }
+    {
+        let n = self.secret.shape.variables();
+        let (front, run) = public.split_at_mut(head.len());
+        front.copy_from_slice(head);
+        let (inner, rest) = work.split_at_mut(n * n);
+        let (left, rest) = rest.split_at_mut(n * n);
+        self.write_run(inner, left, &mut rest[0..n * n], run);
+    }
 }
 
 // Makes the public key of a secret key.
@@ -71,10 +63,12 @@ pub fn public_key<R: Ring>(
 ) -> Result<(), Refusal>
     ensures { PublicMade (R.Ring.ring ring.now) key.now public.old workspace.old result public.new workspace.new }
 {
-    let head = judge(ring, key, public, workspace)?;
+    let (key, buffers) = judge(ring, key, public, workspace)?;
+    let shape = key.shape();
     let guard = Wipe { bytes: workspace };
-    let run = &key[head.len as usize..];
-    refuse_first(&[foreign_code(ring, Buffer::Key, run, head.shape.secret_codes())])?;
-    publish(ring, &head, key, guard.bytes, public);
+    refuse_codes(ring, &buffers)?;
+    let (head, run) = key.parts();
+    let secret = SecretRun { ring, run, shape };
+    SecretKey { secret }.publish(head, guard.bytes, public);
     Ok(())
 }

@@ -1,8 +1,7 @@
 ghost use Rattle.maps.specs.Worked.{WorkedCases};
 
 // The worked cases hold.
-pub fn worked_cases() -> bool
+#[tactic(auto, using(crate::proofs::Cases::worked))]
+pub fn worked_cases()
     ensures { WorkedCases }
-{
-    true
-}
+{}

@@ -1,14 +1,14 @@
 -- One column of an array after the other. Assumes nothing.
-use Rattle.std.proofs.Common.{◌≡◌, ℕ, ◌+◌, ◌-◌, ◌*◌, ◌<◌, ◌≤◌, List, length, Some, None, Ok, Err, Option, Result, sym, refl, ap, ◌∙◌, subst, inl, inr, add-zero, arith}
+use Rattle.std.proofs.Common.{◌≡◌, ℕ, ◌+◌, ◌-◌, ◌*◌, ◌<◌, List, Some, None, Ok, Err, Option, Result, sym, refl, ap, ◌∙◌, subst, inl, inr, add-zero, arith}
 use native.Mathlib.Decide.{dec_lt}
 use Rattle.algebra.specs.Rings.{Ring, RingLaws}
 use Rattle.algebra.specs.Systems.{Vector, Solves, FirstDependent, Solution}
 use Rattle.algebra.proofs.Systems.{Kept, kept_more, kept_unit, kept_solution, dependent_singular, not_both, same_column, same_solution}
 use Rattle.matrices.specs.declared.elimination.Dependent.{Dependent}
 use Rattle.matrices.specs.declared.elimination.Lead.{Lead}
-use Rattle.matrices.specs.Arrays.{entry, Codes, Swapped, Scaled, Cleared}
-use Rattle.matrices.specs.Linear.{Found, Fits, Misfit, Solved, Eliminated, Determined, FaultsAreSingular, Solving, SolvesOne, Inverts, InvertsIn}
-use Rattle.matrices.proofs.RowWrites.{row_off, written_codes, swapped_codes}
+use Rattle.matrices.specs.Arrays.{entry, Codes, Swapped, Cleared}
+use Rattle.matrices.specs.Linear.{Found, Fits, Misfit, Solved, Eliminated, Determined, FaultsAreSingular, Solving, SolvesOne}
+use Rattle.matrices.proofs.RowWrites.{Scaled, row_off, written_codes, swapped_codes}
 
 pub column_done : (R : Ring) (L : RingLaws R) (n w c : ℕ) (old rows a b new : List ℕ) (p : Lead) → c < n → c < w → Codes R rows → Kept R L n w c (entry old w) (entry rows w) → Found R rows n w c c p → Swapped rows a w (c * w) (p.row * w) → Scaled R a b w (c * w) p.inverse → Cleared R b new n w c → Codes R new × Kept R L n w (c + 1) (entry old w) (entry new w)
 column_done R L n w c old rows a b new p lc lw h K F W V C =
@@ -68,9 +68,3 @@ pub solves_one_lem : (R : Ring) (old : List ℕ) (n : ℕ) (r : Option (Result U
 solves_one_lem R old n None new E = E
 solves_one_lem R old n (Some (Ok x)) new E = (E.0, solving R old n new E.1)
 solves_one_lem R old n (Some (Err e)) new E = (E.0, E.1.0)
-
--- lengths that fit
-pub inverts : (R : Ring) (system : List ℕ) (n lent : ℕ) (old : List ℕ) (r : Option (Result Unit Dependent)) (new : List ℕ) → length system ≡ n * n → 2 * (n * n) ≤ lent → length old ≡ n * n → InvertsIn R system n old r new → Inverts R system n lent old r new
-inverts R system n lent old None new a b c I = ((λ F. I.0 F.codes), I.1)
-inverts R system n lent old (Some (Ok x)) new a b c I = (record { places = a; codes = I.0; work = b; room = c }, I.1)
-inverts R system n lent old (Some (Err e)) new a b c I = (record { places = a; codes = I.0; work = b; room = c }, I.1)

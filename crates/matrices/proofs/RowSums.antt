@@ -1,5 +1,5 @@
 -- Sums of products, a row at a time. Assumes nothing.
-use Rattle.std.proofs.Common.{◌≡◌, ℕ, ◌+◌, ◌*◌, ◌<◌, ◌≤◌, min, ◌⊎◌, List, length, get_or, sym, refl, ap, ◌∙◌, subst, ap₂, add-one, arith}
+use Rattle.std.proofs.Common.{◌≡◌, ℕ, ◌+◌, ◌*◌, ◌<◌, ◌≤◌, min, ◌⊎◌, Ok, Err, Result, List, length, get_or, sym, refl, ap, ◌∙◌, subst, ap₂, add-one, arith}
 use native.Mathlib.Decide.{dec_lt}
 use borrow.Rule.Slice.PartMut.{put_mid}
 use Rattle.std.specs.List.{between}
@@ -8,10 +8,17 @@ use Rattle.algebra.specs.Rings.{Ring, RingLaws}
 use Rattle.algebra.specs.Sums.{dot_of}
 use Rattle.algebra.proofs.Codes.{zero_mul, sum_code}
 use Rattle.algebra.proofs.Systems.{dot_ext}
+use Rattle.fields.specs.declared.packing.Misfit.{Misfit}
 use Rattle.fields.specs.Rows.{plus_times}
 use Rattle.fields.proofs.Additions.{get_or_plus}
 use Rattle.matrices.specs.Arrays.{entry, Written}
+use Rattle.matrices.specs.MatrixProducts.{Applied}
 use Rattle.matrices.proofs.RowWrites.{row_off, put_written}
+
+-- a product whose lengths fit
+pub applied_there : (R : Ring) (a x old new : List ℕ) (n k : ℕ) (r : Result Unit Misfit) → length a ≡ n * k → length x ≡ k → length old ≡ n → Applied R a x old r new → (i : ℕ) → i < n → get_or new i 0 ≡ dot_of R k (entry a k i) (λ j. get_or x j 0)
+applied_there R a x old new n k (Ok _) f e o A i l = A.1 i (omega arith) ∙ ap (λ (m : ℕ). dot_of R m (entry a m i) (λ j. get_or x j 0)) e
+applied_there R a x old new n k (Err _) f e o A i l = absurd (A.0 (f ∙ ap₂ ◌*◌ (sym o) (sym e)))
 
 -- row i of m times x
 pub dot_row : (R : Ring) (m x : List ℕ) (i w : ℕ) → w ≡ length x → i * w + w ≤ length m → dot_of R (min (length (between (i * w) (i * w + w) m)) (length x)) (λ t. get_or (between (i * w) (i * w + w) m) t 0) (λ t. get_or x t 0) ≡ dot_of R (length x) (entry m (length x) i) (λ t. get_or x t 0)

@@ -1,14 +1,19 @@
 -- Runs of codes, written place by place, in rows. Assumes nothing.
-use Rattle.std.proofs.Common.{◌≡◌, ℕ, zero, suc, ◌+◌, ◌-◌, ◌*◌, ◌<◌, ◌≤◌, ◌≢◌, ◌⊎◌, List, ◌++◌, length, get_or, take, drop, sym, ap, ◌∙◌, ap₂, inl, inr, mul-le-mul_right, suc-mul, arith, length-take-le}
+use Rattle.std.proofs.Common.{◌≡◌, ℕ, ◌+◌, ◌-◌, ◌*◌, ◌<◌, ◌≤◌, ◌≢◌, ◌⊎◌, Bool, true, false, List, ◌++◌, length, get_or, take, drop, sym, refl, ap, ◌∙◌, subst, ap₂, inl, inr, mul-le-mul_right, suc-mul, arith, length-append, length-take-le}
 use native.Mathlib.Decide.{dec_lt, ℕ_discrete}
-use borrow.Rule.Slice.PartMut.{put_mid}
-use Rattle.std.proofs.lemmas.List.{get_or_append_left, get_or-append_right, get_or-take, get_or-drop}
+use borrow.Rule.Slice.PartMut.{put_mid, same_len_mid}
+use Rattle.std.proofs.lemmas.List.{get_or_append_left, get_or-append_right, get_or-append-add, get_or-take, get_or-drop, get_or_past, length-drop}
 use Rattle.algebra.specs.Rings.{Ring, RingLaws}
 use Rattle.fields.specs.Rows.{plus_times}
 use Rattle.fields.proofs.Additions.{length_plus, get_or_plus}
-use Rattle.std.specs.List.{between}
+use Rattle.std.specs.Bool.{MatchBool}
+use Rattle.std.specs.List.{between, AllWithin, HoldsAt}
 use Rattle.std.proofs.lemmas.List.Edits.{length-between, get_or-between}
-use Rattle.matrices.specs.Arrays.{entry, Codes, Off, Apart, Written, Swapped, Added, Cleared}
+use Rattle.matrices.specs.Arrays.{entry, Codes, Sifted, Off, Apart, Written, Swapped, Added, Cleared}
+
+-- The w places from a on, each times u.
+abbrev pub Scaled : Ring → List ℕ → List ℕ → ℕ → ℕ → ℕ → Type 0
+Scaled R old new w a u = Written old new w a (λ k. R.mul u (get_or old (a + k) 0))
 
 -- where a place is among those written, or off them
 pub among : (a w m : ℕ) → ((k : ℕ) × ((k < w) × (m ≡ a + k))) ⊎ Off a w m
@@ -45,6 +50,9 @@ swapped_codes R old new w a b W h m =
 pub row_below : (i n w : ℕ) → i < n → i * w + w ≤ n * w
 row_below i n w h = let e = suc-mul i w in let l = mul-le-mul_right w h in omega arith
 
+pub row_room : (i n w l : ℕ) → l ≡ n * w → i < n → i * w + w ≤ l
+row_room i n w l e h = let k = row_below i n w h in omega arith
+
 pub rows_apart : (i c w : ℕ) → (i ≡ c → ⊥) → Apart (i * w) (c * w) w
 rows_apart i c w h =
     elim (dec_lt i c) [
@@ -55,11 +63,6 @@ rows_apart i c w h =
 pub row_off : (i c w j : ℕ) → (i ≡ c → ⊥) → j < w → Off (c * w) w (i * w + j)
 row_off i c w j h l =
     elim (rows_apart i c w h) [ inl g ↦ inl (omega arith) | inr g ↦ inr (omega arith) ]
-
--- a row is no longer than the array
-pub too_wide : (l n m b : ℕ) → l < b → m < b → (n + m < b → ⊥) → l ≡ n * (n + m) → ⊥
-too_wide l zero m b h g w e = w (omega arith)
-too_wide l (suc n) m b h g w e = let s = suc-mul n (suc n + m) in w (omega arith)
 
 pub cleared_skip : (R : Ring) (old new : List ℕ) (t w c : ℕ) → t ≡ c → Cleared R old new t w c → Cleared R old new (t + 1) w c
 cleared_skip R old new t w c e C = record {
@@ -111,44 +114,92 @@ put_written xs ys a k h e = record {
 pub written_as : (old new : List ℕ) (w a : ℕ) (v u : ℕ → ℕ) → ((k : ℕ) → k < w → v k ≡ u k) → Written old new w a v → Written old new w a u
 written_as old new w a v u h W = record { here = λ k l. W.here k l ∙ h k l; rest = W.rest }
 
--- d places done, and n more
-pub added_more : (R : Ring) (old mid new : List ℕ) (w d n a b f : ℕ) → Apart a b w → d + n ≤ w → Added R old mid d a b f → Added R mid new n (a + d) (b + d) f → Added R old new (d + n) a b f
-added_more R old mid new w d n a b f p l V W = record {
-  here = λ k h.
-      elim (dec_lt k d) [
-        | yes s ↦ W.rest (a + k) (inl (omega arith)) ∙ V.here k s
-        | no s ↦ later k (k - d) (omega arith) (omega arith)
+-- a write to the first of two parts, or to the second
+pub written_front : (xs ys new : List ℕ) (w a : ℕ) (v : ℕ → ℕ) → length new ≡ length xs → a + w ≤ length xs → Written xs new w a v → Written (xs ++ ys) (new ++ ys) w a v
+written_front xs ys new w a v e h W = record {
+  here = λ k l. get_or_append_left new ys 0 (a + k) (omega arith) ∙ W.here k l;
+  rest = λ m o.
+      elim (dec_lt m (length xs)) [
+        | yes l ↦ get_or_append_left new ys 0 m (omega arith) ∙ W.rest m o ∙ sym (get_or_append_left xs ys 0 m l)
+        | no l ↦ get_or-append_right new ys (length xs) m 0 e (omega arith) ∙ sym (get_or-append_right xs ys (length xs) m 0 refl (omega arith))
       ];
-  rest = rest;
 }
-  where
-    off : (t : ℕ) → t < w → Off a d (b + t)
-    off t h = elim p [ inl q ↦ inr (omega arith) | inr q ↦ inl (omega arith) ]
 
-    later : (k t : ℕ) → k ≡ d + t → t < n → get_or new (a + k) 0 ≡ R.add (get_or old (a + k) 0) (R.mul f (get_or old (b + k) 0))
-    later k t e h =
-        let x : a + k ≡ a + d + t = omega arith in
-        let y : b + k ≡ b + d + t = omega arith in
-        ap (λ s. get_or new s 0) x ∙ W.here t h
-        ∙ ap₂ (λ r s. R.add (get_or mid r 0) (R.mul f (get_or mid s 0))) (sym x) (sym y)
-        ∙ ap₂ (λ r s. R.add r (R.mul f s)) (V.rest (a + k) (inr (omega arith))) (V.rest (b + k) (off k (omega arith)))
-
-    rest : (m : ℕ) → Off a (d + n) m → get_or new m 0 ≡ get_or old m 0
-    rest m (inl g) = W.rest m (inl (omega arith)) ∙ V.rest m (inl g)
-    rest m (inr g) = W.rest m (inr (omega arith)) ∙ V.rest m (inr (omega arith))
-
--- a part of a row, copied and added
-pub added_part : (R : Ring) (rows part acc : List ℕ) (n k a b f : ℕ) → a + n ≤ length rows → b + n ≤ length rows → k ≡ n → part ≡ between b (b + n) rows → acc ≡ plus_times R f (between a (a + n) rows) part → Added R rows (put_mid a k rows acc) n a b f
-added_part R rows part acc n k a b f la lb e p h = record {
-  here = λ i l. W.here i (omega arith) ∙ ap (λ xs. get_or xs i 0) h ∙ get_or_plus R f (between a (a + n) rows) part i (omega (arith, len)) (omega (arith, lp)) ∙ ap₂ (λ x y. R.add x (R.mul f y)) (get_or-between rows a (a + n) i 0 (omega arith)) (ap (λ xs. get_or xs i 0) p ∙ get_or-between rows b (b + n) i 0 (omega arith));
-  rest = λ m o. W.rest m (elim o [ inl s ↦ inl s | inr s ↦ inr (omega arith) ]);
+pub written_back : (xs ys new : List ℕ) (w : ℕ) (v : ℕ → ℕ) → ((k : ℕ) → k < w → get_or new k 0 ≡ v k) → ((m : ℕ) → w ≤ m → get_or new m 0 ≡ get_or ys m 0) → Written (xs ++ ys) (xs ++ new) w (length xs) v
+written_back xs ys new w v h same = record {
+  here = λ k l. get_or-append_right xs new (length xs) (length xs + k) 0 refl (omega arith) ∙ ap (λ t. get_or new t 0) (omega arith) ∙ h k l;
+  rest = λ m o.
+      elim (dec_lt m (length xs)) [
+        | yes l ↦ get_or_append_left xs new 0 m l ∙ sym (get_or_append_left xs ys 0 m l)
+        | no l ↦ let g : w ≤ m - length xs = elim o [ inl s ↦ omega arith | inr s ↦ omega arith ] in
+            get_or-append_right xs new (length xs) m 0 refl (omega arith) ∙ same (m - length xs) g ∙ sym (get_or-append_right xs ys (length xs) m 0 refl (omega arith))
+      ];
 }
+
+-- To a row of the first part a multiple of the second part's first row is added, or the other way round.
+added_to_front : (R : Ring) (xs ys acc : List ℕ) (w k a f : ℕ) → a + w ≤ length xs → w ≤ length ys → k ≡ w → acc ≡ plus_times R f (between a (a + w) xs) (take w ys) → Added R (xs ++ ys) (put_mid a k xs acc ++ ys) w a (length xs) f
+added_to_front R xs ys acc w k a f h g e p =
+    written_as (xs ++ ys) (put_mid a k xs acc ++ ys) w a (λ i. get_or acc i 0) _ each
+    (written_front xs ys (put_mid a k xs acc) w a (λ i. get_or acc i 0) (same_len_mid a k xs acc (long ∙ sym e ∙ sym (length-take-le k (drop a xs) (let d = length-drop a xs in omega arith)))) h
+    (subst (λ t. Written xs (put_mid a t xs acc) w a (λ i. get_or acc i 0)) (sym e) (put_written xs acc a w h long)))
   where
-    len : length (between a (a + n) rows) ≡ n
-    len = length-between rows a (a + n) la ∙ omega arith
+    len : length (between a (a + w) xs) ≡ w
+    len = length-between xs a (a + w) h ∙ omega arith
 
-    lp : length part ≡ n
-    lp = ap length p ∙ length-between rows b (b + n) lb ∙ omega arith
+    long : length acc ≡ w
+    long = ap length p ∙ length_plus R f (between a (a + w) xs) (take w ys) ∙ len
 
-    W : Written rows (put_mid a k rows acc) k a (λ i. get_or acc i 0)
-    W = put_written rows acc a k (omega arith) (ap length h ∙ length_plus R f (between a (a + n) rows) part ∙ len ∙ sym e)
+    each : (i : ℕ) → i < w → get_or acc i 0 ≡ R.add (get_or (xs ++ ys) (a + i) 0) (R.mul f (get_or (xs ++ ys) (length xs + i) 0))
+    each i l =
+        ap (λ zs. get_or zs i 0) p ∙ get_or_plus R f (between a (a + w) xs) (take w ys) i (omega (arith, len)) (let t = length-take-le w ys g in omega arith)
+        ∙ ap₂ (λ x y. R.add x (R.mul f y)) (get_or-between xs a (a + w) i 0 (omega arith) ∙ sym (get_or_append_left xs ys 0 (a + i) (omega arith)))
+        (get_or-take w ys i 0 l ∙ sym (get_or-append-add xs ys i 0))
+
+added_to_back : (R : Ring) (xs ys acc : List ℕ) (w b f : ℕ) → b + w ≤ length xs → w ≤ length ys → acc ≡ plus_times R f (take w ys) (between b (b + w) xs) → Added R (xs ++ ys) (xs ++ (acc ++ drop w ys)) w (length xs) b f
+added_to_back R xs ys acc w b f h g p =
+    written_back xs ys (acc ++ drop w ys) w _ each
+    (λ m l. get_or-append_right acc (drop w ys) w m 0 long l ∙ get_or-drop w ys (m - w) 0 ∙ ap (λ t. get_or ys t 0) (omega arith))
+  where
+    len : length (take w ys) ≡ w
+    len = length-take-le w ys g
+
+    long : length acc ≡ w
+    long = ap length p ∙ length_plus R f (take w ys) (between b (b + w) xs) ∙ len
+
+    each : (i : ℕ) → i < w → get_or (acc ++ drop w ys) i 0 ≡ R.add (get_or (xs ++ ys) (length xs + i) 0) (R.mul f (get_or (xs ++ ys) (b + i) 0))
+    each i l =
+        get_or_append_left acc (drop w ys) 0 i (omega (arith, long))
+        ∙ ap (λ zs. get_or zs i 0) p ∙ get_or_plus R f (take w ys) (between b (b + w) xs) i (omega (arith, len)) (let t = length-between xs b (b + w) h in omega arith)
+        ∙ ap₂ (λ x y. R.add x (R.mul f y)) (get_or-take w ys i 0 l ∙ sym (get_or-append-add xs ys i 0))
+        (get_or-between xs b (b + w) i 0 (omega arith) ∙ sym (get_or_append_left xs ys 0 (b + i) (omega arith)))
+
+pub added_front : (R : Ring) (rows xs ys acc : List ℕ) (w k a b f : ℕ) → rows ≡ xs ++ ys → length xs ≡ b → a + w ≤ b → b + w ≤ length rows → k ≡ w → acc ≡ plus_times R f (between a (a + w) xs) (take w ys) → Added R rows (put_mid a k xs acc ++ ys) w a b f
+added_front R rows xs ys acc w k a b f e lb h g q p =
+    let s = ap length e ∙ length-append xs ys in
+    subst (λ t. Added R t (put_mid a k xs acc ++ ys) w a b f) (sym e)
+    (subst (λ t. Added R (xs ++ ys) (put_mid a k xs acc ++ ys) w a t f) lb (added_to_front R xs ys acc w k a f (omega arith) (omega arith) q p))
+
+pub added_back : (R : Ring) (rows xs ys acc : List ℕ) (w a b f : ℕ) → rows ≡ xs ++ ys → length xs ≡ a → b + w ≤ a → a + w ≤ length rows → acc ≡ plus_times R f (take w ys) (between b (b + w) xs) → Added R rows (xs ++ (acc ++ drop w ys)) w a b f
+added_back R rows xs ys acc w a b f e la h g p =
+    let s = ap length e ∙ length-append xs ys in
+    subst (λ t. Added R t (xs ++ (acc ++ drop w ys)) w a b f) (sym e)
+    (subst (λ t. Added R (xs ++ ys) (xs ++ (acc ++ drop w ys)) w t b f) la (added_to_back R xs ys acc w b f (omega arith) (omega arith) p))
+
+-- a row of which each code is multiplied
+pub scaled_row : (R : Ring) (rows row : List ℕ) (w k a u : ℕ) → a + w ≤ length rows → k ≡ w → length row ≡ length (between a (a + w) rows) → ((j : ℕ) → j < length (between a (a + w) rows) → get_or row j 0 ≡ R.mul u (get_or (between a (a + w) rows) j 0)) → Scaled R rows (put_mid a k rows row) w a u
+scaled_row R rows row w k a u h e long each =
+    subst (λ t. Scaled R rows (put_mid a t rows row) w a u) (sym e)
+    (written_as rows (put_mid a w rows row) w a (λ i. get_or row i 0) _ (λ i l. each i (omega (arith, len)) ∙ ap (R.mul u) (get_or-between rows a (a + w) i 0 (omega arith)))
+    (put_written rows row a w h (omega (arith, len))))
+  where
+    len : length (between a (a + w) rows) ≡ w
+    len = length-between rows a (a + w) h ∙ omega arith
+
+-- what a test of every byte says of the places past the end too
+pub sifted : (R : Ring) → RingLaws R → (rows : List ℕ) (r : Bool) → MatchBool r (AllWithin (λ x. x < R.q) rows 0 (length rows)) ((k : ℕ) × (k < length rows) × HoldsAt (λ x. R.q ≤ x) rows k) → Sifted R rows r
+sifted R L rows true h = λ k.
+    elim (dec_lt k (length rows)) [
+      | yes l ↦ h k 0 (omega arith) l
+      | no l ↦ let z = get_or_past rows k 0 (omega arith) in let low = L.q_low in omega arith
+    ]
+sifted R L rows false h = (h.0, (h.1, h.2 0))

@@ -1,14 +1,16 @@
 -- Sums of the terms of a quadratic form, in the order in which they are added up. Assumes nothing.
-use Rattle.std.proofs.Common.{◌≡◌, ℕ, zero, suc, ◌+◌, ◌-◌, ◌*◌, ◌<◌, ◌≤◌, leb, List, length, get_or, sym, refl, ap, ◌∙◌, ap₂, suc-mul, mul_comm, add-mul, mul-le-mul, one-mul, zero-add, zero-mul, arith, le-leb}
+use Rattle.std.proofs.Common.{◌≡◌, ℕ, zero, suc, ◌+◌, ◌-◌, ◌*◌, ◌<◌, ◌≤◌, leb, List, length, get_or, take, drop, length-take-le, sym, refl, ap, ◌∙◌, ap₂, suc-mul, mul_comm, add-mul, mul-le-mul, zero-add, zero-mul, arith, le-leb}
 use borrow.Author.Tests.{lt-leb}
 use Rattle.std.proofs.lemmas.Bool.{cond-true, cond-false}
-use Rattle.std.proofs.lemmas.List.FromFn.{length-map-range_with_len, get_or-map-range_with_len}
+use Rattle.std.proofs.lemmas.List.{get_or-take, get_or-drop, length-drop}
 use Rattle.algebra.specs.Rings.{Ring, RingLaws}
 use Rattle.algebra.specs.Sums.{sum}
-use Rattle.algebra.proofs.Codes.{nil_code, zero_mul, sum_code}
+use Rattle.algebra.proofs.Codes.{zero_mul, sum_code}
+use Rattle.algebra.proofs.SumLaws.{sum_zeros}
 use Rattle.fields.specs.Packing.{code_at, codes_from}
 use Rattle.fields.specs.Rows.{plus_times}
 use Rattle.fields.proofs.Additions.{get_or_plus}
+use Rattle.fields.proofs.Runs.{length_from, get_or_from}
 use Rattle.matrices.specs.QuadraticSystems.{pairs_before, pair_at, coefficient, term_of, terms_of, form_value}
 
 pub pairs_before_lem : (n k : ℕ) → k ≤ n → pairs_before n k ≤ k * n
@@ -33,16 +35,12 @@ module _ (R : Ring) (L : RingLaws R) where
   unfolding term_of
   term_below run x m e i j h = ap (λ t. R.mul t (R.mul (get_or x i 0) (get_or x j 0))) (coefficient_below R.q run (length x) m e i j h) ∙ zero_mul R L _
 
-  pub sum_zeros : (n : ℕ) (f : ℕ → ℕ) → ((k : ℕ) → k < n → f k ≡ 0) → sum R n f ≡ 0
-  sum_zeros zero f h = refl
-  sum_zeros (suc n) f h = ap₂ R.add (sum_zeros n f (λ k l. h k (omega arith))) (h n (omega arith)) ∙ L.add_zero 0 (nil_code R L)
-
   -- v + (s + t) is what adding t to v + s gives
   pub sum_more : (v n : ℕ) (f : ℕ → ℕ) → v < R.q → f n < R.q → R.add (R.add v (sum R n f)) (f n) ≡ R.add v (sum R (suc n) f)
   sum_more v n f hv hf = L.add_assoc v (sum R n f) (f n) hv (sum_code R L n f) hf
 
   pub sum_start : (v n : ℕ) (f : ℕ → ℕ) → v < R.q → ((k : ℕ) → k < n → f k ≡ 0) → v ≡ R.add v (sum R n f)
-  sum_start v n f hv h = sym (ap (R.add v) (sum_zeros n f h) ∙ L.add_zero v hv)
+  sum_start v n f hv h = sym (ap (R.add v) (sum_zeros R L n f h) ∙ L.add_zero v hv)
 
   pub term_code : (run x : List ℕ) (m e i j : ℕ) → term_of R run x m e i j < R.q
   unfolding term_of
@@ -63,20 +61,24 @@ place_small n m i d hi hn hm hd =
     let s : pairs_before n i + d ≤ 1049600 = omega arith in
     mul-le-mul s hm
 
-pub place_next : (n i j at m : ℕ) → i ≤ j → at ≡ (pairs_before n i + (j - i)) * m → at + m ≡ (pairs_before n i + ((j + 1) - i)) * m
-place_next n i j at m h e =
-    let s : pairs_before n i + ((j + 1) - i) ≡ (pairs_before n i + (j - i)) + 1 = omega arith in
-    let t = add-mul (pairs_before n i + (j - i)) 1 m in
-    let o = one-mul m in
+pub place_later : (n i k at m : ℕ) → at ≡ pairs_before n i * m → at + k * m ≡ (pairs_before n i + ((i + k) - i)) * m
+place_later n i k at m e =
+    let s : (i + k) - i ≡ k = omega arith in
+    let t = add-mul (pairs_before n i) k m in
     rw s (omega arith)
+
+pub later : (xs : List ℕ) (i k : ℕ) → i + k < length xs → get_or (take (length xs - i) (drop i xs)) k 0 ≡ get_or xs (i + k) 0
+later xs i k h = get_or-take (length xs - i) (drop i xs) k 0 (omega arith) ∙ get_or-drop i xs k 0
+
+pub length_later : (xs : List ℕ) (i : ℕ) → length (take (length xs - i) (drop i xs)) ≡ length xs - i
+length_later xs i = let d = length-drop i xs in length-take-le (length xs - i) (drop i xs) (omega arith)
 
 -- One turn of the loop over j: row holds the coefficients of x(i) x(j), and t is x(i) x(j).
 module _ (R : Ring) (L : RingLaws R) (run x : List ℕ) where
   pub term_step : (i j at t : ℕ) (old cur row new : List ℕ) → i ≤ j → at ≡ (pairs_before (length x) i + (j - i)) * length cur → t ≡ R.mul (get_or x i 0) (get_or x j 0) → row ≡ codes_from R.q run at (length cur) → new ≡ plus_times R t cur row → ((e : ℕ) → get_or old e 0 < R.q) → ((e : ℕ) → e < length cur → get_or cur e 0 ≡ R.add (get_or old e 0) (sum R j (term_of R run x (length cur) e i))) → (e : ℕ) → e < length cur → get_or new e 0 ≡ R.add (get_or old e 0) (sum R (suc j) (term_of R run x (length cur) e i))
-  unfolding codes_from
   term_step i j at t old cur row new h p q r w c ih e l =
-      let long : length row ≡ length cur = ap length r ∙ length-map-range_with_len (λ k. code_at R.q run (at + k)) 0 (length cur) in
-      let code : get_or row e 0 ≡ code_at R.q run (at + e) = ap (λ (z : List ℕ). get_or z e 0) r ∙ get_or-map-range_with_len (λ k. code_at R.q run (at + k)) 0 (length cur) e e 0 l (zero-add e) in
+      let long : length row ≡ length cur = ap length r ∙ length_from R.q run at (length cur) in
+      let code : get_or row e 0 ≡ code_at R.q run (at + e) = ap (λ (z : List ℕ). get_or z e 0) r ∙ get_or_from R.q run at (length cur) e l in
       let term : R.mul t (get_or row e 0) ≡ term_of R run x (length cur) e i j = ap₂ R.mul q code ∙ term_there R L run x (length cur) e i j at h p in
       let within : e < length row = omega arith in
       ap (λ (z : List ℕ). get_or z e 0) w ∙ get_or_plus R t cur row e l within ∙ ap₂ R.add (ih e l) term

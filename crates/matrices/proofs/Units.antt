@@ -1,11 +1,12 @@
 -- The unit matrix beside the left blocks of rows of n + n codes, and what elimination then leaves. Assumes nothing.
-use Rattle.std.proofs.Common.{◌≡◌, ℕ, ◌+◌, ◌-◌, ◌*◌, ◌<◌, ◌≤◌, List, length, get_or, sym, refl, ap, ◌∙◌, inl, inr, mul-le-mul_right, arith}
+use Rattle.std.proofs.Common.{◌≡◌, ℕ, ◌+◌, ◌-◌, ◌*◌, ◌<◌, ◌≤◌, List, length, Some, None, Ok, Err, Option, Result, is_ok, true, false, get_or, sym, refl, ap, ◌∙◌, inl, inr, mul-le-mul_right, arith}
 use native.Mathlib.Decide.{dec_lt}
 use Rattle.algebra.specs.Rings.{Ring, RingLaws}
-use Rattle.algebra.specs.Systems.{unit_matrix, FirstDependent, Inverse}
-use Rattle.algebra.proofs.Systems.{unit_code, solution_ext, dependent_ext, dot_ext, inverse}
-use Rattle.matrices.specs.Arrays.{entry, Codes, Off, Written, UnitsBeside, RightOf}
-use Rattle.matrices.specs.Linear.{LeftCodes, Solved, LeftInverted}
+use Rattle.algebra.specs.Systems.{unit_matrix, FirstDependent}
+use Rattle.algebra.proofs.Systems.{unit_code, solution_ext, dependent_ext, inverse_ext, inverse}
+use Rattle.matrices.specs.Arrays.{entry, Codes, Off, Written, LeftFrom, UnitsBeside, RightOf}
+use Rattle.matrices.specs.declared.elimination.Dependent.{Dependent}
+use Rattle.matrices.specs.Linear.{LeftCodes, Solved, Reduced, Room, LeftFits, LeftInverted, LeftInverts, InverseFits, Inverts}
 use Rattle.matrices.proofs.RowWrites.{row_below}
 use Rattle.matrices.proofs.Blocks.{codes_from_lem}
 
@@ -27,14 +28,6 @@ units_more old mid new n t A W = record { left = λ i j g. W.rest (i * (n + n) +
           | no s ↦ let e : i ≡ t = omega arith in
               ap (λ u. entry new (n + n) u (n + k)) e ∙ ap (λ u. get_or new u 0) (omega arith) ∙ W.here k g ∙ ap (λ u. unit_matrix u k) (sym e)
         ]
-
--- only the entries count
-inverse_ext : (R : Ring) (n : ℕ) (A C X : ℕ → ℕ → ℕ) → ((i j : ℕ) → i < n → j < n → A i j ≡ C i j) → Inverse R n A X → Inverse R n C X
-inverse_ext R n A C X h V = record {
-  codes = V.codes;
-  right = λ i j l g. dot_ext R n _ _ _ _ (λ k p. sym (h i k l p)) (λ k p. refl) ∙ V.right i j l g;
-  left = λ i j l g. dot_ext R n _ _ _ _ (λ k p. refl) (λ k p. sym (h k j p g)) ∙ V.left i j l g;
-}
 
 module _ (R : Ring) (L : RingLaws R) (old rows : List ℕ) (n : ℕ) (A : UnitsBeside old rows n n) where
   same_left : (i j : ℕ) → i < n → j < n → entry rows (n + n) i j ≡ entry old (n + n) i j
@@ -67,7 +60,28 @@ module _ (R : Ring) (L : RingLaws R) (old rows : List ℕ) (n : ℕ) (A : UnitsB
       let same : (i j : ℕ) → i < n → j < n → entry rows (n + n) i j ≡ entry rows (n + n) i j = λ i j l g. refl in
       record {
         codes = c;
-        inverse = inverse_ext R n (entry rows (n + n)) (entry old (n + n)) (entry block n) same_left
+        inverse = inverse_ext R n (entry rows (n + n)) (entry old (n + n)) (entry block n) (entry block n) same_left (λ i j l g. refl)
             (inverse R L n (entry rows (n + n)) (entry block n) (λ i j. h (i * (n + n) + j)) (λ i j. c (i * n + j))
             (solution_ext R n n (entry rows (n + n)) (λ i k. entry rows (n + n) i (n + k)) (λ i k. entry new (n + n) i (n + k)) (entry rows (n + n)) unit_matrix (entry block n) same A.right (λ i k l g. sym (Q i k l g)) S.right));
       }
+
+-- what elimination answers of the rows, read back
+pub left_inverts : (R : Ring) → RingLaws R → (old rows new : List ℕ) (n : ℕ) (r : Result Unit Dependent) (was block : List ℕ) → Room old n (length was) → UnitsBeside old rows n n → Codes R rows → Reduced R rows n n r new → length block ≡ n * n → (is_ok r ≡ true → RightOf new block n n) → (is_ok r ≡ false → block ≡ was) → LeftInverts R old n was (Some r) block
+left_inverts R L old rows new n (Ok x) was block m A h S e Q P = (record { room = m; codes = codes_left R L old rows n A h }, units_inverse R L old rows n A new block e h S (Q refl))
+left_inverts R L old rows new n (Err f) was block m A h S e Q P = (record { room = m; codes = codes_left R L old rows n A h }, (units_dependent R L old rows n A f.column S.0, P refl))
+
+-- an inverse of the left blocks is one of the system that stood there
+system_fits : (R : Ring) (L : RingLaws R) (system rows : List ℕ) (n lent out : ℕ) → length system ≡ n * n → 2 * (n * n) ≤ lent → LeftFrom system rows n n → LeftFits R rows n out → InverseFits R system n lent out
+system_fits R L system rows n lent out a b l F = record {
+  places = a;
+  codes = codes_from_lem R L system n n a (λ i j h g. let e = l i j h g in let c = F.codes i j h g in omega arith);
+  work = b;
+  room = F.room.inverse;
+}
+
+pub inverts : (R : Ring) → RingLaws R → (system rows : List ℕ) (n lent : ℕ) (old : List ℕ) (r : Option (Result Unit Dependent)) (new : List ℕ) → length system ≡ n * n → 2 * (n * n) ≤ lent → Room rows n (length old) → LeftFrom system rows n n → LeftInverts R rows n old r new → Inverts R system n lent old r new
+inverts R L system rows n lent old None new a b m l I = ((λ F. I.0 (record { room = m; codes = λ i j h g. let e = l i j h g in let c = F.codes (i * n + j) in omega arith })), I.1)
+inverts R L system rows n lent old (Some (Ok x)) new a b m l I =
+    (system_fits R L system rows n lent (length old) a b l I.0, record { codes = I.1.codes; inverse = inverse_ext R n (entry rows (n + n)) (entry system n) (entry new n) (entry new n) l (λ i j p g. refl) I.1.inverse })
+inverts R L system rows n lent old (Some (Err e)) new a b m l I =
+    (system_fits R L system rows n lent (length old) a b l I.0, (dependent_ext R n e.column (entry rows (n + n)) (entry system n) l I.1.0, I.1.1))

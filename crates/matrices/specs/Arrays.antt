@@ -7,6 +7,10 @@ use Rattle.algebra.specs.Systems.{unit_matrix}
 abbrev pub entry : List ℕ → ℕ → ℕ → ℕ → ℕ
 entry rows w i j = slice_index rows (i * w + j)
 
+-- column is the column c of the first n rows of w codes.
+abbrev pub ColumnOf : List ℕ → ℕ → ℕ → ℕ → List ℕ → Type 0
+ColumnOf rows w c n column = (t : ℕ) → t < n → slice_index column t ≡ entry rows w t c
+
 -- Every byte is a code; past the end stands 0, which is one.
 abbrev pub Codes : Ring → List ℕ → Type 0
 Codes R rows = (k : ℕ) → slice_index rows k < R.q
@@ -38,10 +42,6 @@ pub record Swapped (old new : List ℕ) (w a b : ℕ) : Type 0 where
   pub two : (k : ℕ) → k < w → slice_index new (b + k) ≡ slice_index old (a + k)
   pub rest : (m : ℕ) → Off a w m → Off b w m → slice_index new m ≡ slice_index old m
 
--- The w places from a on, each times u.
-abbrev pub Scaled : Ring → List ℕ → List ℕ → ℕ → ℕ → ℕ → Type 0
-Scaled R old new w a u = Written old new w a (λ k. R.mul u (slice_index old (a + k)))
-
 -- To the w places from a on, f times the w places from b on is added.
 abbrev pub Added : Ring → List ℕ → List ℕ → ℕ → ℕ → ℕ → ℕ → Type 0
 Added R old new w a b f = Written old new w a (λ k. R.add (slice_index old (a + k)) (R.mul f (slice_index old (b + k))))
@@ -53,10 +53,9 @@ pub record Cleared (R : Ring) (old new : List ℕ) (t w c : ℕ) : Type 0 where
   pub later : (i j : ℕ) → t ≤ i → j < w → entry new w i j ≡ entry old w i j
   pub codes : Codes R old → Codes R new
 
--- The first t rows of new are [A | 1], where A is n rows of n codes.
-pub record Augmented (a new : List ℕ) (n t : ℕ) : Type 0 where
-  pub left : (i j : ℕ) → i < t → j < n → entry new (n + n) i j ≡ entry a n i j
-  pub right : (i k : ℕ) → i < t → k < n → entry new (n + n) i (n + k) ≡ unit_matrix i k
+-- The left blocks of the first t rows of new, of n + n places each, are the first t rows of a, of n.
+abbrev pub LeftFrom : List ℕ → List ℕ → ℕ → ℕ → Type 0
+LeftFrom a new n t = (i j : ℕ) → i < t → j < n → entry new (n + n) i j ≡ entry a n i j
 
 -- In rows of n + n codes the left blocks are as they were, and the first t rows of the right block are the unit matrix's.
 pub record UnitsBeside (old new : List ℕ) (n t : ℕ) : Type 0 where

@@ -78,13 +78,7 @@ Inverts R system n work old None new = (InverseFits R system n work (length old)
 Inverts R system n work old (Some (Ok _)) new = InverseFits R system n work (length old) × Inverted R system n new
 Inverts R system n work old (Some (Err e)) new = InverseFits R system n work (length old) × (FirstDependent R n (entry system n) e.column × (new ≡ old))
 
--- The same where the lengths fit: None exactly where some byte of the system is no code.
-abbrev pub InvertsIn : Ring → List ℕ → ℕ → List ℕ → Option (Result Unit Dependent) → List ℕ → Type 0
-InvertsIn R system n old None new = (Codes R system → ⊥) × (new ≡ old)
-InvertsIn R system n old (Some (Ok _)) new = Codes R system × Inverted R system n new
-InvertsIn R system n old (Some (Err e)) new = Codes R system × (FirstDependent R n (entry system n) e.column × (new ≡ old))
-
--- For an inverse in place: n rows of n + n places, and n rows of n places for the inverse.
+-- n rows of n + n places, and as many of n beside them
 pub record Room (rows : List ℕ) (n out : ℕ) : Type 0 where
   pub places : length rows ≡ n * (n + n)
   pub inverse : out ≡ n * n

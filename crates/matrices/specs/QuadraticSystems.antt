@@ -1,10 +1,11 @@
 -- Systems of m quadratic forms in n variables, as a packed run of codes: for each pair i ≤ j, by i, then j, the m coefficients of x(i) x(j).
-use Rattle.std.specs.Prelude.{◌≡◌, ℕ, zero, suc, ◌+◌, ◌-◌, ◌*◌, Bool, true, false, cond, ◌&&◌, List, map, length, nat_le, slice_index}
+use Rattle.std.specs.Prelude.{◌≡◌, ℕ, zero, suc, ◌+◌, ◌-◌, ◌*◌, ◌≤◌, Ok, Err, Result, cond, List, map, length, nat_le, slice_index}
 use Rattle.std.specs.List.{range_with_len}
 use Rattle.algebra.specs.Rings.{Ring}
 use Rattle.algebra.specs.Sums.{sum}
 use Rattle.algebra.specs.Forms.{form_at}
 use Rattle.fields.specs.Packing.{code_at}
+use Rattle.fields.specs.declared.packing.Misfit.{Misfit}
 
 -- how many pairs i ≤ j < n have i < k
 unfoldable pub pairs_before : ℕ → ℕ → ℕ
@@ -34,8 +35,12 @@ term_of R run x m e i j = R.mul (coefficient R.q run (length x) m e i j) (R.mul 
 unfoldable pub terms_of : Ring → List ℕ → List ℕ → ℕ → ℕ → ℕ → ℕ
 terms_of R run x m e i = sum R (length x) (term_of R run x m e i)
 
--- What evaluation answers and leaves.
-pub record Evaluated (R : Ring) (run x old : List ℕ) (r : Bool) (new : List ℕ) : Type 0 where
-  pub few : r ≡ (nat_le (length x) 1024 && nat_le (length old) 1024)
-  pub values : r ≡ true → new ≡ map (form_value R run x (length old)) (range_with_len 0 (length old))
-  pub same : r ≡ false → new ≡ old
+-- at most 1024 variables and at most 1024 forms
+pub record Few (n m : ℕ) : Type 0 where
+  pub variables : n ≤ 1024
+  pub forms : m ≤ 1024
+
+-- The value of each form at x, in new, which was old; Err exactly where there are too many variables or forms.
+abbrev pub Evaluated : Ring → List ℕ → List ℕ → List ℕ → Result Unit Misfit → List ℕ → Type 0
+Evaluated R run x old (Ok _) new = Few (length x) (length old) × (new ≡ map (form_value R run x (length old)) (range_with_len 0 (length old)))
+Evaluated R run x old (Err _) new = (Few (length x) (length old) → ⊥) × (new ≡ old)

@@ -7,10 +7,9 @@ use fields::Ring;
 pub fn dot<R: Ring>(ring: &R, a: &[u8], b: &[u8]) -> u8
     ensures { result ≡ dot_of (R.Ring.ring ring.now) (min (length a.now) (length b.now)) (λ i. slice_index a.now i) (λ i. slice_index b.now i) }
 {
-    let n = a.len().min(b.len());
     let mut s = 0;
-    for i in 0..n {
-        s = ring.sum(s, ring.product(a[i], b[i]));
+    for (&x, &y) in a.iter().zip(b) {
+        s = ring.sum(s, ring.product(x, y));
     }
     s
 }

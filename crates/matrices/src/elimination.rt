@@ -1,12 +1,9 @@
-ghost use Rattle.std.specs.Prelude.{◌≡◌, ◌+◌, ◌-◌, ◌*◌, ◌^◌, ◌<◌, ◌≤◌, ◌⊎◌, length};
-ghost use Rattle.matrices.specs.Arrays.{Codes, Sifted, Apart, Swapped, Scaled, Added, Cleared};
-ghost use Rattle.matrices.specs.Linear.{Pivoted, Reduced, Eliminated, Determined, FaultsAreSingular};
+ghost use Rattle.std.specs.Prelude.{◌≡◌, ℕ, ◌+◌, ◌*◌, ◌<◌, ◌≤◌, ◌⊎◌, length, slice_index};
+ghost use Rattle.matrices.specs.Arrays.{Codes, Sifted, Apart, Swapped, Added, Cleared};
+ghost use Rattle.matrices.specs.Linear.{Fits, Pivoted, Reduced, Eliminated, Determined, FaultsAreSingular};
 
 use super::products::fills;
 use fields::{Field, Ring};
-
-// How many codes of a row are copied at a time.
-const PART: usize = 256;
 
 // The first column, counted from 1, that depends on those before it.
 #[derive(Clone, Copy, PartialEq, Eq, Debug)]
@@ -25,71 +22,62 @@ struct Lead {
 fn all_codes<R: Ring>(ring: &R, rows: &[u8]) -> bool
     ensures { Sifted (R.Ring.ring ring.now) rows.now result }
 {
-    for i in 0..rows.len() {
-        if rows[i] as u16 >= ring.size() {
-            return false;
-        }
-    }
-    true
+    let q = ring.size();
+    rows.iter().all(|&code| (code as u16) < q)
 }
 
 // Changes the `width` codes from `a` on with those from `b` on.
+// The rows, their width and places are parameters: a struct that holds a `&mut` slice owes a clause on what the borrow leaves in every method.
 fn swap_rows(rows: &mut [u8], width: usize, a: usize, b: usize)
-    requires { (a + width ≤ length rows.old) × ((b + width ≤ length rows.old) × ((a ≡ b) ⊎ Apart a b width)) }
+    requires order { (a ≡ b) ⊎ (a + width ≤ b) }
+    requires inside { b + width ≤ length rows.old }
     ensures { Swapped rows.old rows.new width a b }
 {
-    for k in 0..width {
-        rows.swap(a + k, b + k);
+    if a < b {
+        let (above, below) = rows.split_at_mut(b);
+        above[a..a + width].swap_with_slice(&mut below[..width]);
     }
 }
 
-// Multiplies each of the `width` codes from `at` on.
-fn scale_row<R: Ring>(ring: &R, rows: &mut [u8], width: usize, at: usize, factor: u8)
-    requires { at + width ≤ length rows.old }
-    ensures { Scaled (R.Ring.ring ring.now) rows.old rows.new width at factor }
+// Multiplies each code of a row.
+fn scale<R: Ring>(ring: &R, row: &mut [u8], factor: u8)
+    ensures { (j : ℕ) → j < length row.old → slice_index row.new j ≡ (R.Ring.ring ring.now).mul factor (slice_index row.old j) }
 {
-    for k in 0..width {
-        rows[at + k] = ring.product(factor, rows[at + k]);
+    for code in row.iter_mut() {
+        *code = ring.product(factor, *code);
     }
 }
 
-// Adds `factor` times the `width` codes from `from` on to those from `to` on, by way of a copy.
-fn add_part<R: Ring>(ring: &R, rows: &mut [u8], width: usize, to: usize, from: usize, factor: u8)
-    requires { (to + width ≤ length rows.old) × ((from + width ≤ length rows.old) × (width ≤ 256)) }
-    ensures { Added (R.Ring.ring ring.now) rows.old rows.new width to from factor }
-{
-    let mut buffer = [0u8; PART];
-    let part = &mut buffer[0..width];
-    part.copy_from_slice(&rows[from..from + width]);
-    ring.add_multiple(&mut rows[to..to + width], factor, part);
-}
-
-// The same of any width, at most PART codes at a time.
+// Adds `factor` times the `width` codes from `from` on to those from `to` on.
 fn add_row<R: Ring>(ring: &R, rows: &mut [u8], width: usize, to: usize, from: usize, factor: u8)
-    requires { (to + width ≤ length rows.old) × ((from + width ≤ length rows.old) × (Apart to from width)) }
+    requires inside { (to + width ≤ length rows.old) × (from + width ≤ length rows.old) }
+    requires apart { Apart to from width }
     ensures { Added (R.Ring.ring ring.now) rows.old rows.new width to from factor }
 {
-    let mut done = 0;
-    while done < width {
-        let n = PART.min(width - done);
-        add_part(ring, rows, n, to + done, from + done, factor);
-        done += n;
+    if to < from {
+        let (above, below) = rows.split_at_mut(from);
+        ring.add_multiple(&mut above[to..to + width], factor, &below[..width]);
+    } else {
+        let (above, below) = rows.split_at_mut(to);
+        ring.add_multiple(&mut below[..width], factor, &above[from..from + width]);
     }
 }
 
-// A row from row `start` on that is not zero in the column; which of them is open.
+// A row from row `column` on that is not zero in that column; which of them is open.
+// A `for`: of `find_map` it did not prove that a None has looked at every row.
 fn pivot<F: Field>(
     field: &F,
     rows: &[u8],
     order: usize,
     width: usize,
     column: usize,
-    start: usize,
 ) -> Option<Lead>
-    requires { (length rows.now ≡ order * width) × ((column < width) × (Codes (F.Ring.ring field.now) rows.now)) }
-    ensures { Pivoted (F.Ring.ring field.now) rows.now order width column start result }
+    requires places { length rows.now ≡ order * width }
+    requires inside { column < width }
+    requires codes { Codes (F.Ring.ring field.now) rows.now }
+    ensures { Pivoted (F.Ring.ring field.now) rows.now order width column column result }
 {
-    for row in start..order {
+    for row in column..order {
         if let Some(inverse) = field.inverse(rows[row * width + column]) {
             return Some(Lead { row, inverse });
         }
@@ -98,8 +86,10 @@ fn pivot<F: Field>(
 }
 
 // Takes from each row but row `column` its entry in that column times row `column`.
+// By the rows' numbers, since two rows of the array are read and written at once.
 fn clear_column<R: Ring>(ring: &R, rows: &mut [u8], order: usize, width: usize, column: usize)
-    requires { (length rows.old ≡ order * width) × ((column < order) × (column < width)) }
+    requires places { length rows.old ≡ order * width }
+    requires inside { (column < order) × (column < width) }
     ensures { Cleared (R.Ring.ring ring.now) rows.old rows.new order width column }
 {
     for row in 0..order {
@@ -112,16 +102,17 @@ fn clear_column<R: Ring>(ring: &R, rows: &mut [u8], order: usize, width: usize, 
 
 // Brings one column after the other to that of the unit matrix.
 fn reduce<F: Field>(field: &F, rows: &mut [u8], order: usize, right: usize) -> Result<(), Dependent>
-    requires { (length rows.old ≡ order * (order + right)) × ((order + right < 2 ^ 64) × (Codes (F.Ring.ring field.now) rows.old)) }
+    requires { Fits (F.Ring.ring field.now) rows.old order right }
     ensures { Reduced (F.Ring.ring field.now) rows.old order right result rows.new }
 {
     let width = order + right;
     for column in 0..order {
-        let Some(found) = pivot(field, rows, order, width, column, column) else {
+        let Some(found) = pivot(field, rows, order, width, column) else {
             return Err(Dependent { column: column + 1 });
         };
-        swap_rows(rows, width, column * width, found.row * width);
-        scale_row(field, rows, width, column * width, found.inverse);
+        let start = column * width;
+        swap_rows(rows, width, start, found.row * width);
+        scale(field, &mut rows[start..start + width], found.inverse);
         clear_column(field, rows, order, width, column);
     }
     Ok(())
@@ -129,6 +120,7 @@ fn reduce<F: Field>(field: &F, rows: &mut [u8], order: usize, right: usize) -> R
 
 // Solves A X = B for the `order` rows [A | B] of order + right codes, in place: A becomes the unit matrix and B becomes X.
 // None, and the rows as they were, where the length does not fit or some byte is no code. What the rows hold after a fault is open.
+// The Option says whether the rows are a system, the Result what the system answers: where the lengths fit, `unwrap()?` takes the one and passes the other on.
 pub fn eliminate<F: Field>(
     field: &F,
     rows: &mut [u8],
@@ -137,9 +129,7 @@ pub fn eliminate<F: Field>(
 ) -> Option<Result<(), Dependent>>
     ensures { Eliminated (F.Ring.ring field.now) rows.old order right result rows.new }
 {
-    let Some(width) = order.checked_add(right) else {
-        return None;
-    };
+    let width = order.checked_add(right)?;
     if !fills(rows.len(), order, width) || !all_codes(field, rows) {
         return None;
     }
@@ -147,15 +137,11 @@ pub fn eliminate<F: Field>(
 }
 
 // What `eliminate` ensures leaves it one answer.
-pub fn answer_is_fixed<F: Field>(field: &F) -> bool
+pub fn answer_is_fixed<F: Field>(field: &F)
     ensures { Determined (F.Ring.ring field.now) }
-{
-    true
-}
+{}
 
 // What `eliminate` ensures: it solves exactly the systems that are not singular.
-pub fn fault_is_singular<F: Field>(field: &F) -> bool
+pub fn fault_is_singular<F: Field>(field: &F)
     ensures { FaultsAreSingular (F.Ring.ring field.now) }
-{
-    true
-}
+{}

@@ -1,9 +1,9 @@
 use super::benches::Bench;
-use super::endings::Ending;
+use super::endings::Unsigned;
 use fields::Mod31;
-use keys::Refusal;
+use keys::{Listed, Refusal};
 use maps::verify;
-use std::alloc::{AllocError, Global};
+use std::alloc::Global;
 use std::io;
 
 // A secret key modulo 31, of shape 1 1 1, and its public key.
@@ -25,16 +25,6 @@ pub(crate) fn bench_31(heap: Global, places: u8, life: u32) -> anyhow::Result<Be
     Bench::new(heap, Mod31, key, places, life)
 }
 
-// Bytes in base ten, with a space before each.
-fn spell(heap: Global, bytes: &[u8]) -> Result<String, AllocError> {
-    let mut text = String::new(heap);
-    for byte in bytes {
-        let word = format!(in heap; " {byte}")?;
-        text.push_str(word.as_str())?;
-    }
-    Ok(text)
-}
-
 // Prepares a start with one byte of vinegar, and prints the answer.
 pub(crate) fn prepare(rt: &HostRuntime, bench: &mut Bench<Mod31>, vinegar: u8) -> io::Result<()> {
     match bench.prepare(&[vinegar]) {
@@ -45,19 +35,19 @@ pub(crate) fn prepare(rt: &HostRuntime, bench: &mut Bench<Mod31>, vinegar: u8) -
 
 // Takes a start and signs with it, and prints the answers.
 fn sign(rt: &HostRuntime, bench: &mut Bench<Mod31>, digest: &[u8]) -> io::Result<()> {
-    let asked = spell(rt.alloc(), digest)?;
+    let asked = Listed(digest);
     match bench.seal(digest) {
-        Ok(Ending::Signed(number)) => {
-            let signature = spell(rt.alloc(), bench.signature())?;
+        Ok(number) => {
+            let signature = Listed(bench.signature());
             println!(rt; "take: start {number}")?;
             println!(rt; "sign{asked}:{signature}")
         }
-        Ok(Ending::Thrown(number, refusal)) => {
+        Err(Unsigned::Thrown(number, refusal)) => {
             println!(rt; "take: start {number}")?;
             println!(rt; "sign{asked}: {refusal}")?;
             println!(rt; "start {number} still in hand: thrown away")
         }
-        Err(refusal) => println!(rt; "take: {refusal}"),
+        Err(Unsigned::NotTaken(refusal)) => println!(rt; "take: {refusal}"),
     }
 }
 
@@ -78,24 +68,18 @@ pub(crate) fn night_and_block(rt: &HostRuntime) -> anyhow::Result<()> {
     Ok(())
 }
 
-// Ends the waiting start, in a signature or thrown away: its number.
-fn end_one(bench: &mut Bench<Mod31>, signs: bool) -> Result<u32, Refusal> {
-    if !signs {
-        return bench.waste();
-    }
-    match bench.seal(&GOOD)? {
-        Ending::Signed(number) => Ok(number),
-        Ending::Thrown(_, refusal) => Err(refusal),
-    }
-}
-
 // Prepares and ends one start after the other, every other in a signature: the last number, and how many were the next one.
+// A count of what is as expected, and no index.
 fn number_starts(bench: &mut Bench<Mod31>) -> Result<(u32, u32), Refusal> {
     let mut last = 0;
     let mut expected: u32 = 0;
     for turn in 0..TURNS {
         last = bench.prepare(&[1])?;
-        let ended = end_one(bench, turn % 2 == 0)?;
+        let ended = if turn % 2 == 0 {
+            bench.seal(&GOOD)?
+        } else {
+            bench.waste()?
+        };
         if last == turn + 1 && ended == last {
             expected = expected.saturating_add(1);
         }

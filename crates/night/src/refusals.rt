@@ -56,11 +56,11 @@ pub(crate) fn strange_start(rt: &HostRuntime) -> anyhow::Result<()> {
     prepare(rt, &mut first, 1)?;
     prepare(rt, &mut second, 1)?;
     match second.give_away(&mut first) {
-        Ok((number, Some(refusal))) => {
+        Ok((number, Err(refusal))) => {
             println!(rt; "start {number} of the second, to the first: {refusal}")?;
             println!(rt; "start {number} back to the second: thrown away")?;
         }
-        Ok((number, None)) => println!(rt; "start {number} of the second, to the first: taken")?,
+        Ok((number, Ok(()))) => println!(rt; "start {number} of the second, to the first: taken")?,
         Err(refusal) => println!(rt; "take: {refusal}")?,
     }
     Ok(())

@@ -1,18 +1,7 @@
 use super::benches::Bench;
-use super::endings::Ending;
 use fields::Field;
 use std::alloc::Global;
 use std::fs;
-use std::str::from_utf8;
-
-// The bytes that a text lists in hex, two digits each.
-fn parse_hex(heap: Global, text: &str) -> anyhow::Result<Vec<u8>> {
-    let mut bytes = Vec::new(heap);
-    for digits in text.as_bytes().chunks(2) {
-        bytes.push(u8::from_str_radix(from_utf8(digits)?, 16)?)?;
-    }
-    Ok(bytes)
-}
 
 // Whether the start of a vinegar signs the digest of a pair with the signature of that pair.
 fn signs_so<F: Field + Drop>(
@@ -24,19 +13,18 @@ fn signs_so<F: Field + Drop>(
     let Some((digest, signature)) = pair.split_once(' ') else {
         return Ok(false);
     };
-    let digest = parse_hex(heap, digest)?;
-    let signature = parse_hex(heap, signature)?;
-    let vinegar = parse_hex(heap, vinegar)?;
+    let digest = hex::decode(heap, digest)?;
+    let signature = hex::decode(heap, signature)?;
+    let vinegar = hex::decode(heap, vinegar)?;
     if bench.prepare(vinegar.as_slice()).is_err() {
         return Ok(false);
     }
-    match bench.seal(digest.as_slice()) {
-        Ok(Ending::Signed(_)) => Ok(bench.signature() == signature.as_slice()),
-        _ => Ok(false),
-    }
+    let signed = bench.seal(digest.as_slice()).is_ok();
+    Ok(signed && bench.signature() == signature.as_slice())
 }
 
 // Signs the digests of a file of pairs with the vinegars of another, line by line; prints how many signatures are as expected.
+// Counts, and no index: the body may fail, so no chain.
 pub(crate) fn compare<F: Field + Drop>(
     rt: &HostRuntime,
     field: F,

@@ -2,6 +2,7 @@
 
 // Reads a script of calls, one a line, and prints the answer to each.
 mod builtin;
+mod faults;
 mod publishing;
 mod scripts;
 
@@ -9,11 +10,9 @@ use scripts::Session;
 
 fn run(rt: &HostRuntime) -> anyhow::Result<()> {
     let mut session = Session::new(rt.alloc());
-    let mut number: u64 = 0;
-    for line in rt.lines(rt.alloc()) {
+    for (index, line) in rt.lines(rt.alloc()).enumerate() {
         let line = line?;
-        number = number.saturating_add(1);
-        session.answer(rt, number, line.as_str())?;
+        session.answer(rt, index.saturating_add(1), line.as_str())?;
     }
     Ok(())
 }

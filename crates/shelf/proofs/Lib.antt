@@ -1,3 +1,1 @@
-pub mod Judged
 pub mod PlacesOf
-pub mod MakeThrow

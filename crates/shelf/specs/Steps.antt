@@ -1,5 +1,5 @@
 -- What each call of a shelf answers, and leaves in the shelf, the strip and the lent buffers.
-use Rattle.std.specs.Prelude.{◌≡◌, ℕ, ◌+◌, ◌-◌, ◌*◌, ◌%◌, Bool, true, false, not, ◌&&◌, ◌⊎◌, List, [], ◌∷◌, ◌++◌, map, length, replicate, is_some, Some, None, Ok, Err, Option, Result, ◌==◌, nat_le}
+use Rattle.std.specs.Prelude.{◌≡◌, ℕ, ◌+◌, ◌-◌, ◌*◌, ◌%◌, ◌<◌, ◌≤◌, Bool, true, false, not, ◌&&◌, ◌⊎◌, List, [], ◌∷◌, ◌++◌, map, length, replicate, is_some, Some, None, Ok, Err, Option, Result, ◌==◌, nat_le}
 use borrow.Rule.Slice.PartMut.{put_mid}
 use Rattle.std.specs.List.{between}
 use Rattle.algebra.specs.Rings.{Ring}
@@ -92,11 +92,37 @@ early_tests q key ls = head_tests q key ++ map length_test ls
 abbrev pub all_tests : ℕ → List ℕ → List Lent → List (Option Told) → List (Option Told)
 all_tests q key ls ts = head_tests q key ++ (buffer_tests q ls ++ ts)
 
+-- the tests of `prepare` and of `sign` by which the workspace stays untouched
+abbrev pub prepare_early : ℕ → Inner → List ℕ → List ℕ → List ℕ → List ℕ → List (Option Told)
+prepare_early q i key strip vinegar work = early_tests q key (prepare_buffers q i key strip vinegar work)
+
+abbrev pub sign_early : ℕ → Inner → List ℕ → List ℕ → List ℕ → List ℕ → List ℕ → List (Option Told)
+sign_early q i key strip digest signature work = early_tests q key (sign_buffers q i key strip digest signature work)
+
+-- the tests of a secret key and a strip, and then others
+abbrev pub throw_tests : ℕ → Inner → List ℕ → List ℕ → List (Option Told) → List (Option Told)
+throw_tests q i key strip ts = all_tests q key (throw_buffers q i key strip) ts
+
+-- the test of places and life, and what it says where it passes
+abbrev pub limit_test : ℕ → ℕ → Option Told
+limit_test places life = test (not (up_to 16 places && up_to 4294967295 life)) BadShelf
+
+pub record Limits (places life : ℕ) : Type 0 where
+  pub places_some : 0 < places
+  pub places_most : places ≤ 16
+  pub life_some : 0 < life
+  pub life_most : life ≤ 4294967295
+
 abbrev pub make_tests : ℕ → List ℕ → List ℕ → ℕ → ℕ → List (Option Told)
-make_tests q key strip places life = head_tests q key ++ (test (not (up_to 16 places && up_to 4294967295 life)) BadShelf ∷ buffer_tests q (make_buffers q key strip places))
+make_tests q key strip places life = head_tests q key ++ (limit_test places life ∷ buffer_tests q (make_buffers q key strip places))
 
 abbrev pub prepare_tests : Inner → List (Option Told)
 prepare_tests i = test (nat_le i.life i.prepared) WornOut ∷ test (nat_le i.places (waiting i + handed i.hand)) Full ∷ []
+
+-- what they say where they pass
+pub record Room (i : Inner) : Type 0 where
+  pub life : i.prepared < i.life
+  pub place : waiting i + handed i.hand < i.places
 
 abbrev pub take_tests : Inner → List (Option Told)
 take_tests i = test (waiting i == 0) NoneWaiting ∷ test (is_some i.hand) HandFull ∷ []
@@ -160,10 +186,13 @@ SignTried R key digest k i strip signature work (Err e) j strip' signature' =
     (Faulty R (run_of key) (shape_of key) 13 2 (shape_of key).o2 (half_point R (run_of key) (shape_of key) (place_at i (shape_of key) k strip) (code_at R.q digest)))
     × ((j ≡ i) × ((strip' ≡ strip) × (signature' ≡ signature)))
 
--- The same, and after a refusal the very start that was given is handed back.
+-- What a call with a start answers keeps P, and after a refusal that very start is handed back.
+abbrev pub HandsBack : Start → Result Unit HandedBack → (Result Unit Refusal → Type 0) → Type 0
+HandsBack start (Ok u) P = P (Ok u)
+HandsBack start (Err e) P = (e.start ≡ start) × P (Err e.refusal)
+
 abbrev pub Signed : Ring → List ℕ → List ℕ → Start → Inner → List ℕ → List ℕ → List ℕ → Result Unit HandedBack → Inner → List ℕ → List ℕ → Type 0
-Signed R key digest start i strip signature work (Ok u) j strip' signature' = SignTried R key digest start.number i strip signature work (Ok u) j strip' signature'
-Signed R key digest start i strip signature work (Err e) j strip' signature' = (e.start ≡ start) × SignTried R key digest start.number i strip signature work (Err e.refusal) j strip' signature'
+Signed R key digest start i strip signature work r j strip' signature' = HandsBack start r (λ a. SignTried R key digest start.number i strip signature work a j strip' signature')
 
 -- Throw away: the place is cleared, or shelf and strip are as they were.
 abbrev pub ThrowTried : Ring → List ℕ → ℕ → Inner → List ℕ → Result Unit Refusal → Inner → List ℕ → Type 0
@@ -172,5 +201,4 @@ ThrowTried R key k i strip (Ok _) j strip' =
 ThrowTried R key k i strip (Err e) j strip' = (first (all_tests R.q key (throw_buffers R.q i key strip) (end_tests i k)) ≡ Some (told e)) × ((j ≡ i) × (strip' ≡ strip))
 
 abbrev pub ThrownAway : Ring → List ℕ → Start → Inner → List ℕ → Result Unit HandedBack → Inner → List ℕ → Type 0
-ThrownAway R key start i strip (Ok u) j strip' = ThrowTried R key start.number i strip (Ok u) j strip'
-ThrownAway R key start i strip (Err e) j strip' = (e.start ≡ start) × ThrowTried R key start.number i strip (Err e.refusal) j strip'
+ThrownAway R key start i strip r j strip' = HandsBack start r (λ a. ThrowTried R key start.number i strip a j strip')

@@ -1,16 +1,12 @@
-ghost use Rattle.std.specs.Prelude.{◌≡◌, ℕ, ◌+◌, ◌*◌, ◌<◌, ◌≤◌, not, ◌&&◌, length, replicate};
-ghost use Rattle.std.specs.Option.{option_map};
-ghost use Rattle.keys.specs.Heads.{head_of};
-ghost use Rattle.keys.specs.Refusals.{told, test, first, Answers, buffer_tests};
-ghost use Rattle.keys.specs.Shapes.{up_to};
-ghost use Rattle.keys.specs.declared.refusals.Refusal.TheVariants.{BadShelf};
-ghost use Rattle.shelf.specs.Steps.{fresh, make_tests, make_buffers, Made};
+ghost use Rattle.std.specs.Prelude.{◌≡◌, ℕ, ◌+◌, ◌*◌, ◌<◌, ◌≤◌, not, ◌&&◌, map, length, replicate};
+ghost use Rattle.keys.specs.Refusals.{test, first, Answers, buffer_tests};
+ghost use Rattle.keys.specs.Seen.{seen};
+ghost use Rattle.shelf.specs.Steps.{fresh, limit_test, Limits, make_tests, make_buffers, Made};
 
-use super::judges::key_strip_sizes;
 use super::shelves::Shelf;
 use super::state::Inner;
 use fields::Field;
-use keys::{Buffer, Refusal, foreign_code, read_head, refuse_first};
+use keys::{Buffer, Lent, ReadKey, Refusal, refuse_buffers};
 
 // No shelf has more places than this.
 const MOST_PLACES: u64 = 16;
@@ -18,14 +14,14 @@ const MOST_PLACES: u64 = 16;
 // No shelf lives longer than this many starts.
 const MOST_LIFE: u64 = 4294967295;
 
-// The refusal of places or a life outside their limits.
-fn bad_shelf(places: u64, life: u64) -> Option<Refusal>
-    ensures { option_map told result ≡ test (not (up_to 16 places && up_to 4294967295 life)) BadShelf }
+// The fresh state of so many places and such a life, where they are within their limits.
+fn limited(places: u64, life: u64) -> Result<Inner, Refusal>
+    ensures { Answers (limit_test places life) result (λ i. (i ≡ fresh places life) × Limits places life) }
 {
     if 0 < places && places <= MOST_PLACES && 0 < life && life <= MOST_LIFE {
-        None
+        Ok(Inner::fresh(places as u8, life as u32))
     } else {
-        Some(Refusal::BadShelf)
+        Err(Refusal::BadShelf)
     }
 }
 
@@ -34,27 +30,36 @@ impl<F: Field> Shelf<F> {
     pub fn new(field: F) -> Shelf<F>
         ensures { (result.inner ≡ fresh 0 0) × (result.field ≡ field) }
     {
-        let inner = Inner {
-            places: 0,
-            life: 0,
-            prepared: 0,
-            taken: 0,
-            signed: 0,
-            thrown: 0,
-            hand: None,
-        };
-        Shelf { field, inner }
+        Shelf {
+            field,
+            inner: Inner::fresh(0, 0),
+        }
     }
 
-    // The tests of `make`, in order: head, places and life, lengths, codes of the key.
-    fn make_judged(&self, key: &[u8], strip: &[u8], places: u64, life: u64) -> Result<(), Refusal>
-        ensures { Answers (first (make_tests (F.Ring.ring self.now.field).q key.now strip.now places life)) result (λ _. (0 < places) × ((places ≤ 16) × ((0 < life) × (life ≤ 4294967295)))) }
+    // The buffers of `make`.
+    fn make_lent<'a>(&self, key: &ReadKey<'a>, strip: &[u8], inner: &Inner) -> [Lent<'a>; 2]
+        ensures { map (seen (F.Ring.ring self.now.field).q) result ≡ make_buffers (F.Ring.ring self.now.field).q key.now.bytes.now strip.now inner.now.places }
     {
-        let head = read_head(&self.field, key)?;
-        refuse_first(&[bad_shelf(places, life)])?;
-        key_strip_sizes(&self.field, &head, key, strip, places as usize)?;
-        let run = &key[head.len as usize..];
-        refuse_first(&[foreign_code(&self.field, Buffer::Key, run, head.shape.secret_codes())])
+        [
+            key.secret_lent(&self.field),
+            Lent::space(Buffer::Strip, strip, inner.strip_len(&key.shape())),
+        ]
+    }
+
+    // The tests of `make`, in order: head, places and life, lengths, codes of the key. The fresh state where they pass.
+    fn make_judged(
+        &self,
+        key: &[u8],
+        strip: &[u8],
+        places: u64,
+        life: u64,
+    ) -> Result<Inner, Refusal>
+        ensures { Answers (first (make_tests (F.Ring.ring self.now.field).q key.now strip.now places life)) result (λ i. (i ≡ fresh places life) × Limits places life) }
+    {
+        let key = ReadKey::read(&self.field, key)?;
+        let inner = limited(places, life)?;
+        refuse_buffers(&self.field, &self.make_lent(&key, strip, &inner))?;
+        Ok(inner)
     }
 
     // Makes the shelf anew, with so many places and such a life, and clears the strip; the next story begins.
@@ -68,16 +73,7 @@ impl<F: Field> Shelf<F> {
         ensures answer { Made (F.Ring.ring self.old.field) key.now places life self.old.inner strip.old result self.new.inner strip.new }
         ensures field { self.new.field ≡ self.old.field }
     {
-        self.make_judged(key, strip, places, life)?;
-        self.inner = Inner {
-            places: places as u8,
-            life: life as u32,
-            prepared: 0,
-            taken: 0,
-            signed: 0,
-            thrown: 0,
-            hand: None,
-        };
+        self.inner = self.make_judged(key, strip, places, life)?;
         strip.fill(0);
         Ok(())
     }

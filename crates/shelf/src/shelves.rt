@@ -4,6 +4,7 @@ ghost use Rattle.shelf.specs.Sound.{handed};
 use super::state::Inner;
 
 // A shelf of prepared starts over one field, which it holds for its whole life.
+// Keys, strips and workspaces are lent to each call as slices of their own, as a caller in C lends them.
 #[derive(Drop)]
 pub struct Shelf<F> {
     pub(crate) field: F,

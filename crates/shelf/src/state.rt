@@ -1,4 +1,8 @@
-use keys::Refusal;
+ghost use Rattle.std.specs.Prelude.{◌≡◌, ◌*◌};
+ghost use Rattle.keys.specs.Shapes.{place_length};
+ghost use Rattle.shelf.specs.Steps.{fresh, HandsBack};
+
+use keys::{Refusal, Shape};
 
 // A start: vinegar that was put in, with the first layer inverted for it. It carries its number only.
 // It can be neither copied nor dropped: it ends in `sign` or `throw_away`, and only `take` makes one.
@@ -22,4 +26,46 @@ pub struct Inner {
     pub(crate) signed: u32,
     pub(crate) thrown: u32,
     pub(crate) hand: Option<u32>,
+}
+
+impl Start {
+    // Ends the start where its call succeeded; after a refusal hands it back.
+    pub(crate) fn end(self, answer: Result<(), Refusal>) -> Result<(), HandedBack>
+        ensures { HandsBack self result (λ a. a ≡ answer) }
+    {
+        match answer {
+            Ok(()) => {
+                let Start { number: _ } = self;
+                Ok(())
+            }
+            Err(refusal) => Err(HandedBack {
+                refusal,
+                start: self,
+            }),
+        }
+    }
+}
+
+impl Inner {
+    // So many places and such a life, nothing prepared.
+    pub(crate) fn fresh(places: u8, life: u32) -> Inner
+        ensures { result ≡ fresh places life }
+    {
+        Inner {
+            places,
+            life,
+            prepared: 0,
+            taken: 0,
+            signed: 0,
+            thrown: 0,
+            hand: None,
+        }
+    }
+
+    // The length of a strip of these places.
+    pub(crate) fn strip_len(&self, shape: &Shape) -> usize
+        ensures { result ≡ self.now.places * place_length shape.now }
+    {
+        self.places as usize * shape.place_len()
+    }
 }

@@ -1,26 +1,13 @@
 -- Rows of a width, written a column at a time. Assumes nothing.
 use Rattle.std.proofs.Common.{◌≡◌, ℕ, ◌+◌, ◌*◌, ◌<◌, ◌≤◌, ◌≢◌, List, length, get_or, set, sym, ap, ◌∙◌, arith, get_or-set_other, get_or-set_same}
-use native.Mathlib.Decide.{dec_lt, ℕ_discrete}
+use native.Mathlib.Decide.{ℕ_discrete}
 use Rattle.matrices.specs.Arrays.{entry}
-use Rattle.matrices.proofs.RowWrites.{row_below}
+use Rattle.maps.proofs.Publishing.{place_same, place_other}
 use Rattle.signing.specs.Layers.{ColumnPut}
 
 -- places in different rows, or in different columns, differ
 apart : (w r c k j : ℕ) → c < w → j < w → (k ≡ r → j ≡ c → ⊥) → k * w + j ≢ r * w + c
-apart w r c k j lc lj h e =
-    elim (dec_lt k r) [
-      | yes l ↦ let b = row_below k r w l in omega arith
-      | no l ↦ elim (dec_lt r k) [
-        | yes g ↦ let b = row_below r k w g in omega arith
-        | no g ↦
-            let q : k ≡ r = omega arith in
-            let p : k * w ≡ r * w = ap (λ t. t * w) q in
-            h q (omega arith)
-      ]
-    ]
-
-pub column_none : (w c : ℕ) (v : ℕ → ℕ) (rows : List ℕ) → ColumnPut w c 0 v rows rows
-column_none w c v rows = record { here = λ r l. absurd (omega arith); other = λ r j l h. λ i. entry rows w r j }
+apart w r c k j lc lj h e = let q : j ≡ c = place_other k r w j c lj lc e in h (place_same k r w c lc (omega arith)) q
 
 pub column_more : (w c r : ℕ) (v : ℕ → ℕ) (old rows : List ℕ) (y : ℕ) → c < w → r * w + c < length rows → y ≡ v r → ColumnPut w c r v old rows → ColumnPut w c (r + 1) v old (set rows (r * w + c) y)
 column_more w c r v old rows y lc lr e P = record {

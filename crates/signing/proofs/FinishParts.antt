@@ -1,50 +1,38 @@
 -- The steps from a place and a digest to a signature. Assumes nothing.
-use Rattle.std.proofs.Common.{◌≡◌, ℕ, ◌+◌, ◌-◌, ◌*◌, ◌<◌, ◌≤◌, Bool, true, false, cond, eqb, ltb, ◌≢◌, List, map, length, get_or, set, sym, refl, ap, ◌∙◌, subst, ap₂, inl, inr, zero-add, arith, get_or-set_other, get_or-set_same}
-use native.Mathlib.Decide.{dec_lt, ℕ_discrete}
+use Rattle.std.proofs.Common.{◌≡◌, ℕ, ◌+◌, ◌-◌, ◌*◌, ◌<◌, ◌≤◌, Ok, Err, Result, Some, None, Option, cond, ltb, List, map, length, get_or, sym, refl, ap, ◌∙◌, subst, ap₂, inl, inr, zero-add, arith}
+use native.Mathlib.Decide.{dec_lt}
 use borrow.Rule.Slice.PartMut.{put_mid}
 use Rattle.std.specs.List.{range_with_len, between}
 use Rattle.std.proofs.lemmas.List.{same_lists, get_or_default}
 use Rattle.std.proofs.lemmas.List.Edits.{length-between, get_or-between}
-use Rattle.std.proofs.lemmas.Slice.{between-put_mid}
-use Rattle.std.proofs.lemmas.Bool.{eqb-false}
 use Rattle.std.proofs.lemmas.List.FromFn.{length-map-range_with_len, get_or-map-range_with_len}
 use Rattle.algebra.specs.Rings.{Ring, RingLaws}
-use Rattle.algebra.specs.Sums.{dot_of}
 use Rattle.algebra.specs.Matrices.{applied}
-use Rattle.algebra.specs.Systems.{Solves, Regular}
+use Rattle.algebra.specs.Systems.{Solves, Regular, FirstDependent}
 use Rattle.algebra.specs.Layers.{joined}
-use Rattle.algebra.proofs.Systems.{dot_ext}
+use Rattle.algebra.proofs.Systems.{dot_ext, dependent_ext}
 use Rattle.algebra.proofs.LayerForms.{entry_code}
 use Rattle.algebra.proofs.Layers.{joined_low, joined_high, entry_ext, constant_ext, applied_ext}
-use Rattle.fields.specs.Packing.{packed, packed_length}
+use Rattle.fields.specs.Packing.{packed, packed_length, CodesWritten}
+use Rattle.fields.specs.declared.packing.Misfit.{Misfit}
 use Rattle.matrices.specs.Arrays.{entry, Written}
 use Rattle.matrices.specs.MatrixProducts.{Applied}
-use Rattle.matrices.specs.Linear.{Fits, Solving}
+use Rattle.matrices.specs.Linear.{Fits, Solving, SolvesOne}
+use Rattle.matrices.specs.declared.elimination.Dependent.{Dependent}
+use Rattle.std.specs.Option.{IsSome}
 use Rattle.matrices.proofs.RowWrites.{row_below, put_written}
+use Rattle.matrices.proofs.RowSums.{applied_there}
 use Rattle.matrices.proofs.Blocks.{codes_from_lem}
 use Rattle.keys.specs.declared.shapes.Shape.{Shape}
 use Rattle.keys.specs.Shapes.{variables, equations, place_length}
 use Rattle.maps.specs.SecretKeys.{inner_inverse, mask_side, mask_inverse, BroughtBack}
 use Rattle.maps.specs.declared.mask_backs.Mask.{Mask}
-use Rattle.signing.specs.Layers.{system_entry, system_constant, layer_forms, SystemIn, ColumnPut}
+use Rattle.signing.specs.Layers.{system_entry, system_constant, layer_forms}
 use Rattle.signing.specs.Starts.{TakenAway, SecondRows, SecondSolved, Finished, place_vinegar, place_constant, first_oil, half_point, unmixed, packed_vector}
 
-pub taken_none : (R : Ring) (c b : List ℕ) → TakenAway R c b b 0
-taken_none R c b = record { less = λ r l. absurd (omega arith); rest = λ r l. refl }
-
-pub taken_more : (R : Ring) (c old cur : List ℕ) (r y : ℕ) → r < length cur → y ≡ R.add (get_or cur r 0) (R.neg (get_or c r 0)) → TakenAway R c old cur r → TakenAway R c old (set cur r y) (r + 1)
-taken_more R c old cur r y h e T = record {
-  less = λ k l.
-      elim (ℕ_discrete k r) [
-        | yes q ↦ ap (λ t. get_or (set cur r y) t 0) q ∙ get_or-set_same cur r y 0 h ∙ e ∙ ap (λ t. R.add t (R.neg (get_or c r 0))) (T.rest r (omega arith)) ∙ ap (λ t. R.add (get_or old t 0) (R.neg (get_or c t 0))) (sym q)
-        | no q ↦ let ne : k ≢ r = q in get_or-set_other cur r k y 0 ne ∙ T.less k (omega arith)
-      ];
-  rest = λ k l. let ne : k ≢ r = λ q. omega arith in get_or-set_other cur r k y 0 ne ∙ T.rest k (omega arith);
-}
-
-pub brought_there : (R : Ring) (run : List ℕ) (s : Shape) (k : Mask) (x old new : List ℕ) (b : Bool) → length x ≡ mask_side k s → length old ≡ mask_side k s → BroughtBack R run s k x old b new → (i : ℕ) → i < mask_side k s → get_or new i 0 ≡ applied R (mask_side k s) (mask_inverse k R run s) (λ j. get_or x j 0) i
-brought_there R run s k x old new true e f B = B.1
-brought_there R run s k x old new false e f B = absurd (B.0 e f)
+pub brought_there : (R : Ring) (run : List ℕ) (s : Shape) (k : Mask) (x old new : List ℕ) (b : Result Unit Misfit) → length x ≡ mask_side k s → length old ≡ mask_side k s → BroughtBack R run s k x old b new → (i : ℕ) → i < mask_side k s → get_or new i 0 ≡ applied R (mask_side k s) (mask_inverse k R run s) (λ j. get_or x j 0) i
+brought_there R run s k x old new (Ok _) e f B = B.1
+brought_there R run s k x old new (Err _) e f B = absurd (B.0 e f)
 
 -- a list by its places
 pub as_vector : (n : ℕ) (xs : List ℕ) (f : ℕ → ℕ) → length xs ≡ n → ((i : ℕ) → i < n → get_or xs i 0 ≡ f i) → xs ≡ map f (range_with_len 0 n)
@@ -52,14 +40,9 @@ as_vector n xs f e h =
     same_lists xs (map f (range_with_len 0 n)) (e ∙ sym (length-map-range_with_len f 0 n))
     (λ k d l. get_or_default xs k d 0 l ∙ h k (omega arith) ∙ sym (get_or-map-range_with_len f 0 n k k d (omega arith) (zero-add k)))
 
-pub signature_written : (q n : ℕ) (f : ℕ → ℕ) (z old new : List ℕ) (r : Bool) → length z ≡ n → length old ≡ packed_length q n → ((i : ℕ) → i < n → get_or z i 0 ≡ f i) → r ≡ eqb (length old) (packed_length q (length z)) → new ≡ cond r (packed q z) old → new ≡ packed_vector q n f
-signature_written q n f z old new true e l h t w = w ∙ ap (packed q) (as_vector n z f e h)
-signature_written q n f z old new false e l h t w = absurd (eqb-false _ _ (sym t) (l ∙ ap (packed_length q) (sym e)))
-
--- a product whose lengths fit
-pub applied_there : (R : Ring) (a x old new : List ℕ) (n k : ℕ) (r : Bool) → length a ≡ n * k → length x ≡ k → length old ≡ n → Applied R a x old r new → (i : ℕ) → i < n → get_or new i 0 ≡ dot_of R k (entry a k i) (λ j. get_or x j 0)
-applied_there R a x old new n k true f e o A i l = A.1 i (omega arith) ∙ ap (λ (m : ℕ). dot_of R m (entry a m i) (λ j. get_or x j 0)) e
-applied_there R a x old new n k false f e o A i l = absurd (A.0 (f ∙ ap₂ ◌*◌ (sym o) (sym e)))
+pub signature_written : (q n : ℕ) (f : ℕ → ℕ) (z old new : List ℕ) (r : Result Unit Misfit) → length z ≡ n → length old ≡ packed_length q n → ((i : ℕ) → i < n → get_or z i 0 ≡ f i) → CodesWritten q z old r new → new ≡ packed_vector q n f
+signature_written q n f z old new (Ok _) e l h w = w.1 ∙ ap (packed q) (as_vector n z f e h)
+signature_written q n f z old new (Err _) e l h w = absurd (w.0 (l ∙ ap (packed_length q) (sym e)))
 
 -- w below place v, and y from there on
 pub joined_as : (v n : ℕ) (w y f : ℕ → ℕ) → ((i : ℕ) → i < v → f i ≡ w i) → ((c : ℕ) → v + c < n → f (v + c) ≡ y c) → (i : ℕ) → i < n → f i ≡ joined v w y i
@@ -70,7 +53,7 @@ joined_as v n w y f low high i l =
     ]
 
 -- vinegar at the front, and behind it the first layer's variables
-pub half_known : (R : Ring) (s : Shape) (place b b' point oil point' : List ℕ) (r : Bool)
+pub half_known : (R : Ring) (s : Shape) (place b b' point oil point' : List ℕ) (r : Result Unit Misfit)
     → length place ≡ place_length s → length b' ≡ equations s → length point ≡ variables s → length oil ≡ s.v1 + s.o1 - s.v1
     → TakenAway R (between s.v1 (s.v1 + s.o1) place) b b' (length (between s.v1 (s.v1 + s.o1) place))
     → Applied R (between (s.v1 + s.o1) (length place) place) (between 0 s.o1 b') (between s.v1 (s.v1 + s.o1) point) r oil
@@ -96,6 +79,11 @@ half_known R s place b b' point oil point' r lp lb lx lo T A W =
         ∙ dot_ext R s.o1 _ _ _ _ (λ j p. let q = row_below k s.o1 s.o1 g in get_or-between place (s.v1 + s.o1) (length place) (k * s.o1 + j) 0 (omega arith))
         (λ j p. get_or-between b' 0 s.o1 j 0 (omega arith) ∙ ap (λ t. get_or b' t 0) (zero-add j) ∙ T.less j (omega (arith, taken)) ∙ ap (λ t. R.add (get_or b j 0) (R.neg t)) (get_or-between place s.v1 (s.v1 + s.o1) j 0 (omega arith)))
 
+-- rows that fit have an answer
+pub solve_answers : (R : Ring) (rows new : List ℕ) (n : ℕ) (r : Option (Result Unit Dependent)) → Fits R rows n 1 → SolvesOne R rows n r new → IsSome r
+solve_answers R rows new n (Some r) F S = refl
+solve_answers R rows new n None F S = elim S.0 [ inl h ↦ absurd (h F.places) | inr f ↦ let below = F.codes f.0 in absurd (omega (arith, f.1.1)) ]
+
 -- only the entries count, of the system, its right side and the solution
 pub solves_ext : (R : Ring) (n : ℕ) (A C : ℕ → ℕ → ℕ) (b d x y : ℕ → ℕ) → ((i j : ℕ) → i < n → j < n → A i j ≡ C i j) → ((i : ℕ) → i < n → b i ≡ d i) → ((j : ℕ) → j < n → x j ≡ y j) → Solves R n A b x → Solves R n C d y
 solves_ext R n A C b d x y h k m S i l = dot_ext R n _ _ _ _ (λ j g. sym (h i j l g)) (λ j g. sym (m j g)) ∙ S i l ∙ k i l
@@ -104,23 +92,6 @@ pub regular_ext : (R : Ring) (n : ℕ) (A C : ℕ → ℕ → ℕ) → ((i j : �
 regular_ext R n A C h V x v S = V x v (solves_ext R n C A (λ _. 0) (λ _. 0) x x (λ i j l g. sym (h i j l g)) (λ _ _. refl) (λ _ _. refl) S)
 
 module _ (R : Ring) (run : List ℕ) (s : Shape) where
-  -- constants in the first places of the rows, taken from b, and that as the last column before the system
-  pub rows_formed : (x : ℕ → ℕ) (b b' cs rows rows₁ rows₂ rows₃ : List ℕ) → length rows ≡ s.o2 * (s.o2 + 1) → rows₁ ≡ put_mid 0 (s.o2 - 0) rows cs → length cs ≡ s.o2 → length b' ≡ s.o2
-      → ((r : ℕ) → r < s.o2 → get_or cs r 0 ≡ system_constant R run s 2 x r)
-      → TakenAway R (between 0 s.o2 rows₁) b b' (length (between 0 s.o2 rows₁))
-      → ColumnPut (s.o2 + 1) s.o2 (length b') (λ r. get_or b' r 0) rows₁ rows₂
-      → SystemIn R run s 2 x (s.o2 + 1) rows₂ rows₃
-      → SecondRows R run s (λ r. get_or b r 0) x rows₃
-  rows_formed x b b' cs rows rows₁ rows₂ rows₃ lr e lc lb C T P F = record {
-    system = F.entries;
-    side = λ r l.
-        F.rest r s.o2 l (omega arith) (omega arith) ∙ P.here r (omega arith) ∙ T.less r (let p = ap length same in omega arith)
-        ∙ ap (λ t. R.add (get_or b r 0) (R.neg t)) (ap (λ xs. get_or xs r 0) same ∙ C r l);
-  }
-    where
-      same : between 0 s.o2 rows₁ ≡ cs
-      same = ap (between 0 s.o2) e ∙ between-put_mid 0 (s.o2 - 0) rows cs s.o2 (omega arith) (omega arith)
-
   module _ (x y : ℕ → ℕ) (h : (i : ℕ) → i < s.v1 + s.o1 → x i ≡ y i) where
     pub at_same : (r c : ℕ) → system_entry R run s 2 x r c ≡ system_entry R run s 2 y r c
     at_same r c = entry_ext R (s.v1 + s.o1) (layer_forms R.q run s 2) x y r c h
@@ -170,14 +141,18 @@ module _ (R : Ring) (run : List ℕ) (s : Shape) where
 
   module _ (place : List ℕ) (d : ℕ → ℕ) (b : List ℕ) (B : (e : ℕ) → e < equations s → get_or b e 0 ≡ unmixed R run s d e) where
     -- the half point, from the values that b holds
-    pub half_there : (point : List ℕ) → ((i : ℕ) → i < s.v1 + s.o1 → get_or point i 0 ≡ joined s.v1 (place_vinegar place) (first_oil R s place (λ j. get_or b j 0)) i) → (i : ℕ) → i < s.v1 + s.o1 → get_or point i 0 ≡ half_point R run s place d i
+    half_there : (point : List ℕ) → ((i : ℕ) → i < s.v1 + s.o1 → get_or point i 0 ≡ joined s.v1 (place_vinegar place) (first_oil R s place (λ j. get_or b j 0)) i) → (i : ℕ) → i < s.v1 + s.o1 → get_or point i 0 ≡ half_point R run s place d i
     unfolding joined
     half_there point h i l = h i l ∙ ap (cond (ltb i s.v1) (place_vinegar place i)) (dot_ext R s.o1 _ _ _ _ (λ j g. refl) (λ j g. ap (λ t. R.add t (R.neg (place_constant s place j))) (B j (omega arith))))
 
-    pub finished : (b' point new : List ℕ) → ((i : ℕ) → i < s.v1 + s.o1 → get_or point i 0 ≡ half_point R run s place d i) → ((r : ℕ) → s.o1 ≤ r → get_or b' r 0 ≡ get_or b r 0)
+    -- a fault found at the half point that was made is one at the half point
+    pub half_fault : (point : List ℕ) (c : ℕ) → ((i : ℕ) → i < s.v1 + s.o1 → get_or point i 0 ≡ joined s.v1 (place_vinegar place) (first_oil R s place (λ j. get_or b j 0)) i) → FirstDependent R s.o2 (system_entry R run s 2 (λ i. get_or point i 0)) c → FirstDependent R s.o2 (system_entry R run s 2 (half_point R run s place d)) c
+    half_fault point c h = dependent_ext R s.o2 c _ _ (λ i j _ _. at_same _ _ (half_there point h) i j)
+
+    pub finished : (b' point new : List ℕ) → ((i : ℕ) → i < s.v1 + s.o1 → get_or point i 0 ≡ joined s.v1 (place_vinegar place) (first_oil R s place (λ j. get_or b j 0)) i) → ((r : ℕ) → s.o1 ≤ r → get_or b' r 0 ≡ get_or b r 0)
         → SecondSolved R run s (λ r. get_or b' r 0) (λ i. get_or point i 0) new
         → Finished R run s place d (applied R (variables s) (inner_inverse R run s) (λ i. get_or new i 0))
-    finished b' point new h e S = record {
+    finished b' point new known e S = record {
       oil = oil;
       codes = S.codes;
       solves = solves_ext R s.o2 _ _ _ _ oil oil (λ r c _ _. at_same _ _ h r c) (λ r l. less_same _ _ h _ _ r (e (s.o1 + r) (omega arith) ∙ B (s.o1 + r) (omega arith))) (λ _ _. refl) S.solves;
@@ -185,5 +160,8 @@ module _ (R : Ring) (run : List ℕ) (s : Shape) where
       image = λ i l. applied_ext R (variables s) (inner_inverse R run s) _ _ i (joined_as (s.v1 + s.o1) (variables s) (half_point R run s place d) oil (λ j. get_or new j 0) (λ j g. S.known j g ∙ h j g) (λ _ _. refl));
     }
       where
+        h : (i : ℕ) → i < s.v1 + s.o1 → get_or point i 0 ≡ half_point R run s place d i
+        h = half_there point known
+
         oil : ℕ → ℕ
         oil c = get_or new (s.v1 + s.o1 + c) 0

@@ -11,7 +11,7 @@ use Rattle.algebra.specs.Matrices.{public_form}
 use Rattle.algebra.proofs.Codes.{sum_code}
 use Rattle.algebra.proofs.Layers.{applied_code}
 use Rattle.fields.specs.Packing.{packed_length, code_at, or_else, first_foreign}
-use Rattle.fields.proofs.Runs.{foreign_none, foreign_more, foreign_found, length_packed, code_back}
+use Rattle.fields.proofs.Runs.{none_foreign, foreign_found, length_packed, code_back}
 use Rattle.matrices.specs.QuadraticSystems.{pairs_before, pairs, pair_at}
 use Rattle.keys.specs.declared.shapes.Shape.{Shape}
 use Rattle.keys.specs.declared.refusals.Refusal.TheVariants.{ShortHead, OtherField, OddShape, WrongLength, ForeignCode}
@@ -29,19 +29,14 @@ use Rattle.signing.specs.Signatures.{IsSignature, EachVerifies, NoOther}
 use Rattle.signing.proofs.SignatureLaws.{signs_ext, public_value_lem, no_second}
 
 infixr 5 ◌then◌
--- a run of codes has no foreign one
-no_foreign : (q : ℕ) (f : ℕ → ℕ) (n : ℕ) → ((k : ℕ) → k < n → f k < q) → first_foreign q f n ≡ None
-no_foreign q f zero h = foreign_none q f
-no_foreign q f (suc n) h = foreign_more q f n (no_foreign q f n (λ k l. h k (omega arith))) (h n (omega arith))
-
--- and where none is found, the first m are codes
+-- where no foreign code is found, the first m are codes
 known : (q : ℕ) (f : ℕ → ℕ) (n m : ℕ) → first_foreign q f n ≡ None → m ≤ n → (k : ℕ) → k < m → f k < q
 known q f n zero e l k h = absurd (omega arith)
 known q f n (suc m) e l k h =
     let before = known q f n m e (omega arith) in
     elim (dec_lt (f m) q) [
       | yes g ↦ elim (ℕ_discrete k m) [ yes p ↦ subst (λ t. f t < q) (sym p) g | no p ↦ let ne : k ≢ m = p in before k (omega arith) ]
-      | no g ↦ let found = foreign_found q f m n (no_foreign q f m before) (omega arith) l in let z : ◌≡◌ {A = ℕ} 0 1 = cc in absurd (omega arith)
+      | no g ↦ let found = foreign_found q f m n (none_foreign q f m before) (omega arith) l in let z : ◌≡◌ {A = ℕ} 0 1 = cc in absurd (omega arith)
     ]
 
 -- the tests of a buffer's length and codes
@@ -49,7 +44,7 @@ fits_none : (b : Buffer) (m n : ℕ) → m ≡ n → test (not (eqb m n)) (Wrong
 fits_none b m n e = ap (λ t. test (not t) (WrongLength b)) (eq-eqb m n e)
 
 codes_none : (q : ℕ) (b : Buffer) (f : ℕ → ℕ) (n : ℕ) → ((k : ℕ) → k < n → f k < q) → option_map (λ place. told (ForeignCode b place)) (first_foreign q f n) ≡ None
-codes_none q b f n h = ap (option_map (λ place. told (ForeignCode b place))) (no_foreign q f n h)
+codes_none q b f n h = ap (option_map (λ place. told (ForeignCode b place))) (none_foreign q f n h)
 
 none_mapped : (f : ℕ → Told) (o : Option ℕ) → option_map f o ≡ None → o ≡ None
 none_mapped f None e = refl

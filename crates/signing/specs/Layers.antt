@@ -1,8 +1,9 @@
 -- The linear systems of a secret key's layers. The run is the key's after its head; rows, columns and variables are counted from 0, layers from 1.
-use Rattle.std.specs.Prelude.{◌≡◌, ℕ, ◌*◌, ◌<◌, ◌≤◌, Bool, true, false, List, length, ◌≢◌, slice_index}
+use Rattle.std.specs.Prelude.{◌≡◌, ℕ, ◌*◌, ◌<◌, ◌≤◌, Ok, Err, Result, List, length, ◌≢◌, slice_index}
 use Rattle.algebra.specs.Rings.{Ring}
 use Rattle.algebra.specs.Sums.{sum}
 use Rattle.algebra.specs.Layers.{layer_entry, layer_constant}
+use Rattle.fields.specs.declared.packing.Misfit.{Misfit}
 use Rattle.matrices.specs.Arrays.{entry}
 use Rattle.keys.specs.declared.shapes.Shape.{Shape}
 use Rattle.maps.specs.SecretKeys.{group_size, group_start, central, equation_of}
@@ -35,10 +36,10 @@ pub record LayerAt (s : Shape) (l : ℕ) (x : List ℕ) : Type 0 where
   pub few : group_size s l ≤ 1024
   pub values : length x ≡ group_start s l
 
--- The constants, one for each equation; false exactly where there is no such layer, or a length does not fit.
-abbrev pub ConstantsFormed : Ring → List ℕ → Shape → ℕ → List ℕ → List ℕ → Bool → List ℕ → Type 0
-ConstantsFormed R run s l x old true new = (LayerAt s l x × (length old ≡ group_size s l)) × ((r : ℕ) → r < group_size s l → slice_index new r ≡ system_constant R run s l (λ i. slice_index x i) r)
-ConstantsFormed R run s l x old false new = (LayerAt s l x → length old ≢ group_size s l) × (new ≡ old)
+-- The constants, one for each equation; a misfit exactly where there is no such layer, or a length does not fit.
+abbrev pub ConstantsFormed : Ring → List ℕ → Shape → ℕ → List ℕ → List ℕ → Result Unit Misfit → List ℕ → Type 0
+ConstantsFormed R run s l x old (Ok _) new = (LayerAt s l x × (length old ≡ group_size s l)) × ((r : ℕ) → r < group_size s l → slice_index new r ≡ system_constant R run s l (λ i. slice_index x i) r)
+ConstantsFormed R run s l x old (Err _) new = (LayerAt s l x → length old ≢ group_size s l) × (new ≡ old)
 
 -- rows of a width that has place for the layer's columns
 pub record RowsAt (s : Shape) (l width len : ℕ) : Type 0 where
@@ -50,6 +51,6 @@ pub record SystemIn (R : Ring) (run : List ℕ) (s : Shape) (l : ℕ) (x : ℕ �
   pub entries : (r c : ℕ) → r < group_size s l → c < group_size s l → entry new width r c ≡ system_entry R run s l x r c
   pub rest : (r c : ℕ) → r < group_size s l → group_size s l ≤ c → c < width → entry new width r c ≡ entry old width r c
 
-abbrev pub SystemFormed : Ring → List ℕ → Shape → ℕ → List ℕ → ℕ → List ℕ → Bool → List ℕ → Type 0
-SystemFormed R run s l x width old true new = (LayerAt s l x × RowsAt s l width (length old)) × SystemIn R run s l (λ i. slice_index x i) width old new
-SystemFormed R run s l x width old false new = (LayerAt s l x → RowsAt s l width (length old) → ⊥) × (new ≡ old)
+abbrev pub SystemFormed : Ring → List ℕ → Shape → ℕ → List ℕ → ℕ → List ℕ → Result Unit Misfit → List ℕ → Type 0
+SystemFormed R run s l x width old (Ok _) new = (LayerAt s l x × RowsAt s l width (length old)) × SystemIn R run s l (λ i. slice_index x i) width old new
+SystemFormed R run s l x width old (Err _) new = (LayerAt s l x → RowsAt s l width (length old) → ⊥) × (new ≡ old)

@@ -9,6 +9,6 @@ mod worked;
 
 pub use finishes::finish;
 pub use laws::{each_verifies, exactly_one, fixed, no_other, same_start, starts_are_good};
-pub use layers::{layer_constants, layer_system};
+pub use layers::Layer;
 pub use starts::start;
 pub use worked::signed_cases;

@@ -5,9 +5,16 @@ ghost use Rattle.algebra.proofs.ModularLaws.{modular_laws};
 ghost use Rattle.trials.specs.Mod3FieldLemmas.{own, no_code, a_code, squared};
 ghost use Rattle.algebra.proofs.Rootless;
 
-use fields::{Extensible, Field, QuadraticExtension, Ring, gf4, gf16, gf256};
+use fields::{Extensible, Field, Modulo, QuadraticExtension, Ring, gf4, gf16, gf256};
 
-// The integers modulo 3, in which t * t = t + 1 has no root.
+// The integers modulo 3 as a ring.
+fn modulo_3() -> Modulo
+    ensures { result.q ≡ 3 }
+{
+    Modulo::new(3).unwrap()
+}
+
+// The integers modulo 3, a field in which t * t = t + 1 has no root.
 #[derive(Clone, Copy)]
 struct Mod3;
 
@@ -21,19 +28,15 @@ impl Ring for Mod3 {
     }
 
     fn sum(&self, a: u8, b: u8) -> u8 {
-        if a < 3 && b < 3 { (a + b) % 3 } else { 0 }
+        modulo_3().sum(a, b)
     }
 
     fn negative(&self, a: u8) -> u8 {
-        if a < 3 { (3 - a) % 3 } else { 0 }
+        modulo_3().negative(a)
     }
 
     fn product(&self, a: u8, b: u8) -> u8 {
-        if a < 3 && b < 3 {
-            (a as u16 * b as u16 % 3) as u8
-        } else {
-            0
-        }
+        modulo_3().product(a, b)
     }
 }
 

@@ -2,14 +2,6 @@ use Rattle.std.proofs.Common.{◌+◌, ◌*◌, ◌≤◌, mul-le-mul, arith}
 use Rattle.matrices.proofs.Terms.{pairs_closed}
 use Rattle.keys.proofs.sizes.pairs.Goals as goal
 
-pub overflow_mul-result : goal.overflow_mul-result
-overflow_mul-result c =
-    let n = c.args.n in
-    let h : n ≤ 4294967295 = omega arith in
-    let k : n + 1 ≤ 4294967296 = omega arith in
-    let b : n * (n + 1) ≤ 4294967295 * 4294967296 = mul-le-mul h k in
-    omega arith
-
 pub returns : goal.returns
 returns c =
     let n = c.args.n in

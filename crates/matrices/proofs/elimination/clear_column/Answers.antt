@@ -4,14 +4,11 @@ use Rattle.matrices.proofs.RowWrites.{row_below, rows_apart, cleared_skip, clear
 use Rattle.matrices.proofs.elimination.clear_column.Goals as goal
 use Rattle.matrices.proofs.elimination.clear_column.Goals.{then-row-column, else-row-column}
 
-pub bounds-rows-row : goal.bounds-rows-row
-bounds-rows-row g c = let l = row_below c.loop-row.row c.args.order c.args.width c.loop-row-test.true in omega arith
-
 pub add_row-requires : goal.add_row-requires
 add_row-requires g c =
     let l = row_below c.loop-row.row c.args.order c.args.width c.loop-row-test.true in
-    let k = row_below c.args.column c.args.order c.args.width c.requires.1.0 in
-    (omega arith, (omega arith, rows_apart c.loop-row.row c.args.column c.args.width c.if-row-column.true))
+    let k = row_below c.args.column c.args.order c.args.width c.requires.inside.0 in
+    record { inside = (omega arith, omega arith); apart = rows_apart c.loop-row.row c.args.column c.args.width c.if-row-column.true }
 
 pub loop-row-preserved : goal.loop-row-preserved
 loop-row-preserved g c =
@@ -25,7 +22,7 @@ loop-row-preserved g c =
     elim c.if-row-column.branch [
       | then-row-column v ↦
           subst (λ rows. Cleared R old rows (t + 1) w k) (sym v.rows-is)
-          (cleared_more R L old mid v.add_row.new.rows t w k v.if-row-column.true c.requires.1.1 c.loop-row.invariant
+          (cleared_more R L old mid v.add_row.new.rows t w k v.if-row-column.true c.requires.inside.1 c.loop-row.invariant
           (subst (λ f. Added R mid v.add_row.new.rows w (t * w) (k * w) f) v.negative-factor.ensures v.add_row.ensures))
       | else-row-column v ↦
           subst (λ rows. Cleared R old rows (t + 1) w k) (sym v.rows-is) (cleared_skip R old mid t w k v.if-row-column.false c.loop-row.invariant)

@@ -1,8 +1,7 @@
-use Rattle.std.proofs.Common.{◌≡◌, ℕ, ◌-◌, ◌≤◌, leb, List, length, get_or, take, replicate, sym, ap, ◌∙◌, ap₂, add-one, arith, le-leb}
+use Rattle.std.proofs.Common.{◌≡◌, ℕ, ◌-◌, ◌≤◌, List, length, get_or, take, replicate, ap, ◌∙◌, ap₂, add-one, arith}
 use native.Mathlib.Decide.{dec_lt}
 use Rattle.std.proofs.lemmas.List.FromFn.{fill_by_all}
 use Rattle.std.proofs.lemmas.List.{get_or_past, length-replicate, length-take-le, get_or-replicate}
-use Rattle.std.proofs.lemmas.Bool.{and_from, true≢false}
 use Rattle.algebra.specs.Sums.{sum}
 use Rattle.algebra.proofs.Codes.{sum_code, nil_code}
 use Rattle.matrices.specs.QuadraticSystems.{pairs_before, terms_of, form_value}
@@ -65,10 +64,8 @@ returns g c =
     let x = c.args.x.now in
     let m = length c.args.values.now in
     let i_is : c.loop-i.i ≡ length x = omega arith in
-    let m_is : length c.loop-i.values ≡ m = omega arith in
-    record {
-      few = sym (and_from (leb (length x) 1024) (leb m 1024) (le-leb _ _ c.if-x-gt-MOST.false) (le-leb _ _ c.if-values-gt-MOST.false));
-      values = λ _. fill_by_all (form_value R c.args.run.now x m) c.loop-i.values m 0 m_is (λ e l.
-          c.loop-i.invariant.2 e (omega arith) ∙ ap₂ (λ (n k : ℕ). sum R n (terms_of R c.args.run.now x k e)) i_is m_is ∙ form_value_lem R L c.args.run.now x m e);
-      same = λ t. absurd (true≢false t);
-    }
+    let m_is : length c.loop-i.values ≡ m = omega arith in (
+      record { variables = omega arith; forms = omega arith },
+      fill_by_all (form_value R c.args.run.now x m) c.loop-i.values m 0 m_is (λ e l.
+          c.loop-i.invariant.2 e (omega arith) ∙ ap₂ (λ (n k : ℕ). sum R n (terms_of R c.args.run.now x k e)) i_is m_is ∙ form_value_lem R L c.args.run.now x m e),
+    )

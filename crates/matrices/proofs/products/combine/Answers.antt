@@ -4,15 +4,6 @@ use Rattle.matrices.proofs.RowSums.{combine_more, combine_skip}
 use Rattle.matrices.proofs.products.combine.Goals as goal
 use Rattle.matrices.proofs.products.combine.Goals.{then-factor-ne0, else-factor-ne0}
 
-pub slice_bounds-add_multiple-end : goal.slice_bounds-add_multiple-end
-slice_bounds-add_multiple-end g c =
-    let n = length c.args.factors.now in
-    let w = length c.fill.new.self in
-    let l = row_below c.loop-k.k n w c.loop-k-test.true in
-    let e : length c.args.row.now ≡ w = omega arith in
-    let m = ap (λ t. n * t) e in
-    omega arith
-
 pub loop-k-preserved : goal.loop-k-preserved
 loop-k-preserved g c j l =
     let R = g.R.Ring.ring c.args.ring.now in

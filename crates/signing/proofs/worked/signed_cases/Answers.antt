@@ -1,6 +1,5 @@
-use Rattle.std.proofs.Common.{refl}
 use Rattle.signing.proofs.SignedCases.{signed_cases}
 use Rattle.signing.proofs.worked.signed_cases.Goals as goal
 
 pub returns : goal.returns
-returns c = (refl, signed_cases)
+returns c = signed_cases

@@ -3,9 +3,6 @@ use Rattle.matrices.specs.QuadraticSystems.{pairs}
 use Rattle.keys.specs.Shapes.{public_codes}
 use Rattle.keys.proofs.shapes.Shape.public_codes.Goals as goal
 
-pub overflow_mul-result : goal.overflow_mul-result
-overflow_mul-result c = let b = mul-le-mul (c.pairs.ensures.bound (omega arith)) c.equations.ensures.bound in omega arith
-
 pub returns : goal.returns
 unfolding public_codes
 returns c =

@@ -7,6 +7,6 @@ pub returns : goal.returns
 returns g c =
     let i = c.args.self.now.inner in
     let len = place_length c.args.shape.now in
-    let value = ap (λ (k : ℕ). (c.args.number - 1) % i.places * k) c.place_len.ensures in
+    let value = ap (λ (k : ℕ). (c.args.number - 1) % i.places * k) c.place_len.ensures.value in
     let inside = place_inside i.places c.args.number len (length c.args.strip.now) c.requires.0 c.requires.1.1 in
     record { value = value; inside = omega arith }
