@@ -1,12 +1,13 @@
 -- Sums of products, a row at a time. Assumes nothing.
-use Rattle.std.proofs.Common.{◌≡◌, ℕ, ◌+◌, ◌*◌, ◌<◌, ◌≤◌, min, ◌⊎◌, Ok, Err, Result, List, length, get_or, sym, refl, ap, ◌∙◌, subst, ap₂, add-one, arith}
-use native.Mathlib.Decide.{dec_lt}
+use Rattle.std.proofs.Common.{◌≡◌, ℕ, zero, suc, ◌+◌, ◌*◌, ◌<◌, ◌≤◌, ◌≢◌, min, ◌⊎◌, Ok, Err, Result, List, length, get_or, sym, refl, ap, ◌∙◌, subst, ap₂, add-one, arith}
+use native.Mathlib.Decide.{dec_lt, ℕ_discrete}
 use borrow.Rule.Slice.PartMut.{put_mid}
 use Rattle.std.specs.List.{between}
 use Rattle.std.proofs.lemmas.List.Edits.{length-between, get_or-between}
 use Rattle.algebra.specs.Rings.{Ring, RingLaws}
 use Rattle.algebra.specs.Sums.{dot_of}
 use Rattle.algebra.proofs.Codes.{zero_mul, sum_code}
+use Rattle.algebra.proofs.SumLaws.{sum_zeros}
 use Rattle.algebra.proofs.Systems.{dot_ext}
 use Rattle.fields.specs.declared.packing.Misfit.{Misfit}
 use Rattle.fields.specs.Rows.{plus_times}
@@ -36,6 +37,20 @@ combine_more R acc new b fs k w v j e h le len l was =
     rw add-one
     (ap (λ xs. get_or xs j 0) h ∙ get_or_plus R (get_or fs k 0) acc (between (k * w) (k * w + w) b) j (omega arith) (omega arith)
     ∙ ap₂ (λ x y. R.add x (R.mul (get_or fs k 0) y)) was (get_or-between b (k * w) (k * w + w) j 0 (omega arith) ∙ ap (λ s. get_or b (k * s + j) 0) e))
+
+-- a sum of products of which only one has a first factor that is not 0
+pub dot_single : (R : Ring) → RingLaws R → (x y : ℕ → ℕ) (i k : ℕ) → i < k → ((j : ℕ) → j < k → (i ≡ j → ⊥) → x j ≡ 0) → dot_of R k x y ≡ R.mul (x i) (y i)
+dot_single R L x y i zero h z = absurd (omega arith)
+dot_single R L x y i (suc k) h z =
+    elim (ℕ_discrete i k) [
+      | yes e ↦
+          ap (λ s. R.add s (R.mul (x k) (y k))) (sum_zeros R L k (λ j. R.mul (x j) (y j)) (λ j l. ap (λ f. R.mul f (y j)) (z j (omega arith) (λ p. omega arith)) ∙ zero_mul R L (y j)))
+          ∙ L.add_comm 0 (R.mul (x k) (y k)) ∙ L.add_zero (R.mul (x k) (y k)) (L.mul_code (x k) (y k)) ∙ ap (λ t. R.mul (x t) (y t)) (sym e)
+      | no e ↦
+          ap (R.add (dot_of R k x y)) (ap (λ f. R.mul f (y k)) (z k (omega arith) e) ∙ zero_mul R L (y k))
+          ∙ L.add_zero (dot_of R k x y) (sum_code R L k (λ t. R.mul (x t) (y t)))
+          ∙ (let n : i ≢ k = e in dot_single R L x y i k (omega arith) (λ j l p. z j (omega arith) p))
+    ]
 
 -- row k of b is left out where its factor is 0
 pub combine_skip : (R : Ring) → RingLaws R → (b fs : List ℕ) (s k w j : ℕ) → get_or fs k 0 ≡ 0 → s ≡ dot_of R k (λ t. get_or fs t 0) (λ t. entry b w t j) → s ≡ dot_of R (k + 1) (λ t. get_or fs t 0) (λ t. entry b w t j)

@@ -64,6 +64,9 @@ pub row_off : (i c w j : ℕ) → (i ≡ c → ⊥) → j < w → Off (c * w) w 
 row_off i c w j h l =
     elim (rows_apart i c w h) [ inl g ↦ inl (omega arith) | inr g ↦ inr (omega arith) ]
 
+pub cleared_none : (R : Ring) (old : List ℕ) (w c : ℕ) → Cleared R old old 0 w c
+cleared_none R old w c = record { here = λ j l. refl; other = λ i j l m h. absurd (omega arith); later = λ i j l m. refl; codes = λ h. h }
+
 pub cleared_skip : (R : Ring) (old new : List ℕ) (t w c : ℕ) → t ≡ c → Cleared R old new t w c → Cleared R old new (t + 1) w c
 cleared_skip R old new t w c e C = record {
   here = C.here;

@@ -1,4 +1,4 @@
-ghost use Rattle.std.specs.Prelude.{◌≡◌, ℕ, ◌+◌, ◌*◌, ◌<◌, ◌≤◌, ◌⊎◌, length, slice_index};
+ghost use Rattle.std.specs.Prelude.{◌≡◌, ℕ, ◌+◌, ◌*◌, ◌<◌, ◌≤◌, ◌⊎◌, List, length, slice_index};
 ghost use Rattle.matrices.specs.Arrays.{Codes, Sifted, Apart, Swapped, Added, Cleared};
 ghost use Rattle.matrices.specs.Linear.{Fits, Pivoted, Reduced, Eliminated, Determined, FaultsAreSingular};
 
@@ -85,19 +85,37 @@ fn pivot<F: Field>(
     None
 }
 
-// Takes from each row but row `column` its entry in that column times row `column`.
+// Takes from each of the rows from `first` up to `last` its entry in column `column` times row `column`, which is none of them.
 // By the rows' numbers, since two rows of the array are read and written at once.
+fn clear_rows<R: Ring>(
+    ring: &R,
+    rows: &mut [u8],
+    width: usize,
+    column: usize,
+    first: usize,
+    last: usize,
+)
+    requires column { column < width }
+    requires pivot { column * width + width ≤ length rows.old }
+    requires inside { last * width ≤ length rows.old }
+    requires apart { (last ≤ column) ⊎ (column < first) }
+    ensures { (begun : List ℕ) → Cleared (R.Ring.ring ring.now) begun rows.old first width column → first ≤ last → Cleared (R.Ring.ring ring.now) begun rows.new last width column }
+{
+    for row in first..last {
+        let factor = ring.negative(rows[row * width + column]);
+        add_row(ring, rows, width, row * width, column * width, factor);
+    }
+}
+
+// Takes from each row but row `column` its entry in that column times row `column`.
+// First the rows above, then those below: over all of them in one loop the compiler could not see that rows written never overlap the one that is read.
 fn clear_column<R: Ring>(ring: &R, rows: &mut [u8], order: usize, width: usize, column: usize)
     requires places { length rows.old ≡ order * width }
     requires inside { (column < order) × (column < width) }
     ensures { Cleared (R.Ring.ring ring.now) rows.old rows.new order width column }
 {
-    for row in 0..order {
-        if row != column {
-            let factor = ring.negative(rows[row * width + column]);
-            add_row(ring, rows, width, row * width, column * width, factor);
-        }
-    }
+    clear_rows(ring, rows, width, column, 0, column);
+    clear_rows(ring, rows, width, column, column + 1, order);
 }
 
 // Brings one column after the other to that of the unit matrix.

@@ -93,9 +93,9 @@ pub fn invert<F: Field>(
     if work.len() / 2 < system.len() {
         return None;
     }
-    let rows = &mut work[..2 * system.len()];
-    put_left(rows, system, order);
-    invert_rows(field, rows, order, inverse)
+    let beside = &mut work[..2 * system.len()];
+    put_left(beside, system, order);
+    invert_rows(field, beside, order, inverse)
 }
 
 // Inverts A, the left block of the `order` rows of order + order places, and writes its inverse, row by row, into `inverse`.
