@@ -30,7 +30,7 @@ impl<R: Ring> SecretRun<'_, R> {
         }
     }
 
-    // Place i of the inverse of a mask times x.
+    // Place i of the inverse of a mask times x: x(i), and what the row's blocks add; all between is 0.
     #[tactic(auto, unfolding(algebra::specs::Matrices::applied))]
     // A loop: as a `fold` what it returns did not prove.
     fn brought(&self, mask: Mask, x: &[u8], i: usize) -> u8
@@ -38,10 +38,11 @@ impl<R: Ring> SecretRun<'_, R> {
         requires row { i < mask_side mask self.now.shape }
         ensures { result ≡ applied (R.Ring.ring self.now.ring.now) (mask_side mask self.now.shape) (mask_inverse mask (R.Ring.ring self.now.ring.now) self.now.run.now self.now.shape) (λ j. slice_index x.now j) i }
     {
-        let mut s = 0;
-        for (j, &code) in x.iter().enumerate() {
+        let ring = self.ring;
+        let mut s = ring.product(1, x[i]);
+        for j in mask.reach(&self.shape, i)..x.len() {
             let factor = self.back_code(mask, i, j);
-            s = self.ring.sum(s, self.ring.product(factor, code));
+            s = ring.sum(s, ring.product(factor, x[j]));
         }
         s
     }

@@ -72,6 +72,22 @@ impl Mask {
         }
     }
 
+    // The column at which the blocks of row i begin, in the mask and in its inverse; the side where the row has none.
+    pub(crate) fn reach(self, shape: &Shape, i: usize) -> usize
+        requires row { i < mask_side self shape.now }
+        ensures bound { result ≤ mask_side self shape.now }
+        ensures after { i < result }
+        ensures identity { (B : Blocks) (C : ℕ → ℕ → ℕ) (j : ℕ) → j < result → (i ≡ j → ⊥) → mask_with self shape.now B C i j ≡ 0 }
+    {
+        let (v1, o1) = (shape.v1 as usize, shape.o1 as usize);
+        let first = match self {
+            Mask::Outer => o1,
+            Mask::Inner if i < v1 => v1,
+            Mask::Inner => v1 + o1,
+        };
+        if i < first { first } else { self.side(shape) }
+    }
+
     // What stands at an entry of the mask.
     pub(crate) fn part(self, shape: &Shape, i: usize, j: usize) -> Part
         requires row { i < mask_side self shape.now }
