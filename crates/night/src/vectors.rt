@@ -2,6 +2,16 @@ use super::benches::Bench;
 use fields::Field;
 use std::alloc::Global;
 use std::fs;
+use std::str::from_utf8;
+
+// The bytes that a text lists in hex, two digits each. A digit alone at the end is a byte too, and so is a plus with a digit.
+// By hand, since the library `hex` reads neither.
+fn parse_hex(heap: Global, text: &str) -> anyhow::Result<Vec<u8>> {
+    text.as_bytes()
+        .chunks(2)
+        .map(|digits| -> anyhow::Result<u8> { Ok(u8::from_str_radix(from_utf8(digits)?, 16)?) })
+        .try_collect(heap)
+}
 
 // Whether the start of a vinegar signs the digest of a pair with the signature of that pair.
 fn signs_so<F: Field + Drop>(
@@ -13,9 +23,9 @@ fn signs_so<F: Field + Drop>(
     let Some((digest, signature)) = pair.split_once(' ') else {
         return Ok(false);
     };
-    let digest = hex::decode(heap, digest)?;
-    let signature = hex::decode(heap, signature)?;
-    let vinegar = hex::decode(heap, vinegar)?;
+    let digest = parse_hex(heap, digest)?;
+    let signature = parse_hex(heap, signature)?;
+    let vinegar = parse_hex(heap, vinegar)?;
     if bench.prepare(vinegar.as_slice()).is_err() {
         return Ok(false);
     }
