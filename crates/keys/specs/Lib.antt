@@ -3,3 +3,4 @@ pub mod Refusals
 pub mod Heads
 pub mod Sets
 pub mod Seen
+pub mod Listed

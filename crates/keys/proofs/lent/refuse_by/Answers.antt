@@ -1,7 +1,7 @@
 use Rattle.std.proofs.Common.{List, map, Ok, Err, refl, ◌∙◌}
 use Rattle.std.proofs.lemmas.List.{at_drop_all}
 use Rattle.std.proofs.lemmas.Fn.{says_at}
-use Rattle.keys.specs.Refusals.{told, first}
+use Rattle.keys.specs.Refusals.{first}
 use Rattle.keys.proofs.Orders.{first_next, first_some, refused}
 use Rattle.keys.proofs.lent.refuse_by.Goals as goal
 
